@@ -1,8 +1,9 @@
 -- What is left of pairs and changes while they are read.
-use Rattle.std.proofs.Common.{Bool, List, None, Option, Some, [], arith, ap, append_assoc, append-nil, false, map, option_map, refl, sym, true, ℕ, ◌++◌, ◌||◌, ◌∙◌, ◌≡◌, ◌∷◌}
-use Rattle.lq_model.specs.Canon.{CanonicalChange, CanonicalPairs, CanonicalValue, atom, canonical, canonical_change, canonical_each, canonical_pairs, map_of, no_pairs, pair}
+use Rattle.std.proofs.Common.{Bool, List, None, Option, Some, [], arith, ap, append_assoc, append-nil, codes, false, map, not, option_map, refl, sym, true, ℕ, ◌&&◌, ◌++◌, ◌||◌, ◌∙◌, ◌≡◌, ◌∷◌}
+use Rattle.std.specs.Str.{bytes_eq}
+use Rattle.lq_model.specs.Canon.{CanonicalChange, CanonicalPairs, CanonicalValue, atom, canonical, canonical_change, canonical_each, canonical_pairs, list, map_of, no_pairs, number, pair, text, truth}
 use Rattle.lq_canon.specs.Parts.{pair_of, part_of}
-use Rattle.lq_canon.specs.Sums.{has_wide, is_replaced, is_wide, uniform_pairs, uniform_value, uniformed}
+use Rattle.lq_canon.specs.Sums.{has_sql_name, has_wide, is_replaced, is_wide, uniform_pairs, uniform_value, uniformed}
 use Rattle.lq_canon.specs.declared.reading.Pair.{Pair}
 use Rattle.lq_canon.specs.declared.reading.Part.{Part}
 
@@ -145,4 +146,74 @@ each_on to new whole rest after x found still reads ends writes leaves = by stil
         left = more;
         is = leaves change.pairs behind pairs;
         gives = ap (λ l. l ++ rest_is) now ∙ (append_assoc to (canonical_change (uniformed change)) rest_is ∙ gives);
+      }
+
+-- pairs that are passed
+
+pub record PairsStill (rest x : List ℕ) : Type 0 where
+  pub left : CanonicalPairs
+  pub is : rest ≡ canonical_pairs left ++ 125 ∷ x
+
+pub passed_on : (rest x : List ℕ) (found : Pair) → PairsStill rest x → ReadsPair rest (Some found) → ReadsNone rest (Some found) → PairsStill found.rest.now x
+passed_on rest x found still reads none =
+    let first = first_of still.left rest x found still.is reads none in
+    record { left = first.after; is = first.rest }
+
+pub passed_all : (rest x : List ℕ) → PairsStill rest x → ReadsPair rest None → rest ≡ 125 ∷ x
+passed_all rest x still reads = still.is ∙ ap (λ ps. canonical_pairs ps ++ 125 ∷ x) (no_more still.left rest x still.is reads)
+
+-- changes without texts of SQL
+
+none_replaced : (name : List ℕ) → has_sql_name name ≡ false → (wide : Bool) (key : List ℕ) → is_replaced wide name key ≡ false
+none_replaced name none wide key =
+    by (bytes_eq name (codes "sql")) (bytes_eq name (codes "createView")) (bytes_eq name (codes "update")) (bytes_eq name (codes "delete")) none (bytes_eq key (codes "sql")) (not wide) (bytes_eq key (codes "selectQuery")) (bytes_eq key (codes "where"))
+  where
+    by : (a b c d : Bool) → (a || b || c || d) ≡ false → (p q r s : Bool) → ((a && p && q) || ((b && r) || ((c || d) && s))) ≡ false
+    by true b c d none p q r s = absurd (cc none)
+    by false true c d none p q r s = absurd (cc none)
+    by false false true d none p q r s = absurd (cc none)
+    by false false false true none p q r s = absurd (cc none)
+    by false false false false none p q r s = refl
+
+value_same : (v : CanonicalValue) → uniform_value false v ≡ v
+value_same (text t) = refl
+value_same (number n) = refl
+value_same (truth b) = refl
+value_same (list vs) = refl
+value_same (map_of ps) = refl
+
+pairs_same : (wide : Bool) (name : List ℕ) → ((key : List ℕ) → is_replaced wide name key ≡ false) → (ps : CanonicalPairs) → uniform_pairs wide name ps ≡ ps
+pairs_same wide name none no_pairs = refl
+pairs_same wide name none (pair key v ps) =
+    ap (λ b. pair key (uniform_value b v) (uniform_pairs wide name ps)) (none key)
+    ∙ (ap (λ w. pair key w (uniform_pairs wide name ps)) (value_same v) ∙ ap (pair key v) (pairs_same wide name none ps))
+
+change_same : (change : CanonicalChange) → has_sql_name change.name ≡ false → uniformed change ≡ change
+change_same change none = ap (λ (ps : CanonicalPairs). record { name = change.name; pairs = ps }) (pairs_same (has_wide change.pairs) change.name (none_replaced change.name none (has_wide change.pairs)) change.pairs)
+
+-- if the changes that are left are uniform, all are
+pub record StillUniform (rest x : List ℕ) (all : List CanonicalChange) : Type 0 where
+  pub left : List CanonicalChange
+  pub is : rest ≡ canonical_each left ++ 93 ∷ x
+  pub so : map uniformed left ≡ left → map uniformed all ≡ all
+
+pub uniform_all : (rest x : List ℕ) (all : List CanonicalChange) → StillUniform rest x all → ReadsChange rest None → map uniformed all ≡ all
+uniform_all rest x all still reads = still.so (ap (map uniformed) none ∙ sym none) where
+  none : still.left ≡ []
+  none = no_change_more still.left rest x still.is reads
+
+pub uniform_on : (rest after x : List ℕ) (all : List CanonicalChange) (found : Part) → StillUniform rest x all → ReadsChange rest (Some found) → EndsChanges rest (Some found) → LeavesRest found after → has_sql_name found.bytes.now ≡ false
+    → StillUniform after x all
+uniform_on rest after x all found still reads ends leaves none = by still.left still.is still.so where
+  by : (left : List CanonicalChange) → rest ≡ canonical_each left ++ 93 ∷ x → (map uniformed left ≡ left → map uniformed all ≡ all) → StillUniform after x all
+  by [] is so = let other : ◌≡◌ {A = Option Part} (Some found) None = ends x is in absurd (grind arith)
+  by (change ∷ more) is so =
+      let behind = canonical_each more ++ 93 ∷ x in
+      let read : ◌≡◌ {A = Option (List ℕ × List ℕ)} (Some (part_of found)) (Some (change.name, canonical_pairs change.pairs ++ 125 ∷ behind)) = reads change behind (is ∙ append_assoc (canonical_change change) (canonical_each more) (93 ∷ x)) in
+      let same : ◌≡◌ {A = List ℕ × List ℕ} (part_of found) (change.name, canonical_pairs change.pairs ++ 125 ∷ behind) = grind arith in
+      let name = ap (λ (p : List ℕ × List ℕ). p.0) same in
+      record {
+        left = more;
+        is = leaves change.pairs behind (ap (λ (p : List ℕ × List ℕ). p.1) same);
+        so = λ rest_so. so (ap (λ (c : CanonicalChange). c ∷ map uniformed more) (change_same change (ap has_sql_name (sym name) ∙ none)) ∙ ap (λ cs. change ∷ cs) rest_so);
       }

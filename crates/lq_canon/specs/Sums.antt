@@ -22,6 +22,10 @@ is_sql_at name key =
     (bytes_eq name (codes "createView") && bytes_eq key (codes "selectQuery"))
     || ((bytes_eq name (codes "update") || bytes_eq name (codes "delete")) && bytes_eq key (codes "where"))
 
+-- the names of the types that have such texts
+abbrev pub has_sql_name : List ℕ → Bool
+has_sql_name name = bytes_eq name (codes "sql") || bytes_eq name (codes "createView") || bytes_eq name (codes "update") || bytes_eq name (codes "delete")
+
 -- the texts whose blanks do not count; those of a sql change only where its end delimiter is not wide
 abbrev pub is_replaced : Bool → List ℕ → List ℕ → Bool
 is_replaced wide name key = (bytes_eq name (codes "sql") && bytes_eq key (codes "sql") && not wide) || is_sql_at name key

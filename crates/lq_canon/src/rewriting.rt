@@ -1,8 +1,8 @@
 ghost use Rattle.std.specs.List.{list_any};
-ghost use Rattle.std.specs.Prelude.{◌≡◌, ◌&&◌, ◌++◌, ◌||◌, ◌≤◌, ℕ, IfOk, List, OnOk, codes, length, map, string_bytes};
+ghost use Rattle.std.specs.Prelude.{◌≡◌, ◌&&◌, ◌++◌, ◌||◌, ◌≤◌, ℕ, IfOk, List, OnOk, codes, false, length, map, string_bytes, true};
 ghost use Rattle.std.specs.Str.{bytes_eq};
 ghost use Rattle.lq_model.specs.Canon.{CanonicalChange, CanonicalPairs, CanonicalValue, atom, canonical, canonical_changes, canonical_each, canonical_pairs, map_of, numeral};
-ghost use Rattle.lq_canon.specs.Sums.{has_wide, is_replaced, is_sql_at, is_wide, uniform_pairs, uniform_value, uniformed};
+ghost use Rattle.lq_canon.specs.Sums.{has_sql_name, has_wide, is_replaced, is_sql_at, is_wide, uniform_pairs, uniform_value, uniformed};
 ghost use Rattle.lq_uniform.specs.Uniform.{is_quote, is_space, uniform};
 
 use crate::reading::{Pair, Part, change_at, pair_at, text_in, without_first};
@@ -172,6 +172,50 @@ fn append_each(to: &mut Vec<u8>, each: &[u8]) -> Result<(), NoMemory>
         rest = append_change(to, change)?;
     }
     Ok(())
+}
+
+fn has_sql_name(name: &[u8]) -> bool
+    ensures { result ≡ has_sql_name name.now }
+{
+    is(name, "sql") || (is(name, "createView") || (is(name, "update") || is(name, "delete")))
+}
+
+// What follows the pairs up to the end of their map.
+fn behind_pairs(pairs: &[u8]) -> &[u8]
+    ensures read { (ps : CanonicalPairs) (x : List ℕ)
+        → pairs.now
+        ≡ canonical_pairs ps ++ (codes "}" ++ x) → result.now ≡ codes "}" ++ x }
+    ensures shorter { length result.now ≤ length pairs.now }
+{
+    let mut rest = pairs;
+    while let Some(pair) = pair_at(rest) {
+        rest = pair.rest;
+    }
+    rest
+}
+
+// Whether one of the changes has a name at which texts of SQL stand.
+fn one_has_sql(each: &[u8]) -> bool
+    ensures { (cs : List CanonicalChange) (x : List ℕ)
+        → each.now
+        ≡ canonical_each cs ++ (codes "]" ++ x) → result ≡ false → map uniformed cs ≡ cs }
+{
+    let mut rest = each;
+    while let Some(change) = change_at(rest) {
+        if has_sql_name(change.bytes) {
+            return true;
+        }
+        rest = without_first(behind_pairs(change.rest));
+    }
+    false
+}
+
+/// Whether the changes have no text of SQL, so that their canonical text is uniform as it is.
+pub fn is_uniform(text: &[u8]) -> bool
+    ensures { (cs : List CanonicalChange)
+        → text.now ≡ canonical_changes cs → result ≡ true → map uniformed cs ≡ cs }
+{
+    !one_has_sql(without_first(text))
 }
 
 /// The canonical text of the changes with their texts of SQL uniform.

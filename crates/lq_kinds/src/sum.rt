@@ -5,7 +5,7 @@ ghost use Rattle.lq_kinds.specs.ChangeSets.{old_sum_of, sum_of};
 
 use crate::any_change::AnyChange;
 use lq_base::{NoMemory, Text};
-use lq_canon::{checksum, old_checksum};
+use lq_canon::{BothSums, checksums};
 use lq_model::{Canon, Change};
 use std::alloc::Global;
 
@@ -47,7 +47,9 @@ pub fn sums_of(alloc: Global, changes: &[AnyChange]) -> Result<Sums, NoMemory>
     ensures old { IfOk result (λ sums. sums.old_sum ≡ old_sum_of changes.now) }
 {
     let canon = canonical_text(alloc, changes)?;
-    let sum = checksum(alloc, &canon)?;
-    let old_sum = old_checksum(alloc, &canon)?;
-    Ok(Sums { sum, old_sum })
+    let BothSums { new, old } = checksums(alloc, &canon)?;
+    Ok(Sums {
+        sum: new,
+        old_sum: old,
+    })
 }
