@@ -73,3 +73,25 @@ pub fn checksums(alloc: Global, changes: &Canon) -> Result<BothSums, NoMemory>
     let old = digits_behind(alloc, "P1:", digest.as_slice())?;
     Ok(BothSums { new, old })
 }
+
+/// The checksum of a changeset, the new one of both.
+pub fn checksum(alloc: Global, changes: &Canon) -> Result<Text, NoMemory>
+    requires { IsFinished changes.now }
+    ensures { (cs : List CanonicalChange)
+        → changes.now.written ≡ canonical_changes cs
+        → IfOk result (λ sum. sum ≡ sum_of cs) }
+{
+    let BothSums { new, old: _ } = checksums(alloc, changes)?;
+    Ok(new)
+}
+
+/// The checksum of the old form.
+pub fn old_checksum(alloc: Global, changes: &Canon) -> Result<Text, NoMemory>
+    requires { IsFinished changes.now }
+    ensures { (cs : List CanonicalChange)
+        → changes.now.written ≡ canonical_changes cs
+        → IfOk result (λ sum. sum ≡ old_sum_of cs) }
+{
+    let BothSums { new: _, old } = checksums(alloc, changes)?;
+    Ok(old)
+}

@@ -1,7 +1,7 @@
 ghost use Rattle.lq_model.specs.Canon.{IsFinished};
 
 use lq_base::{NoMemory, Text};
-use lq_canon::{BothSums, checksums};
+use lq_canon::{checksum, old_checksum};
 use lq_model::Canon;
 use std::alloc::Global;
 use std::test::Fail;
@@ -85,9 +85,9 @@ fn writes_a_dropped_table(rt: HostRuntime) -> Result<(), Fail> {
 fn both_sums(alloc: Global, changes: &Canon) -> Result<Text, NoMemory>
     requires { IsFinished changes.now }
 {
-    let BothSums { new, old } = checksums(alloc, changes)?;
-    let mut both = new;
-    both.push_all(&[" ", old.as_str()])?;
+    let mut both = checksum(alloc, changes)?;
+    let old_sum = old_checksum(alloc, changes)?;
+    both.push_all(&[" ", old_sum.as_str()])?;
     Ok(both)
 }
 
