@@ -1,3 +1,4 @@
+mod ChangeLemmas
 mod EditLemmas
 mod InsertDecides
 mod InsertSteps

@@ -5,9 +5,7 @@ use Rattle.lq_base.specs.Name.{is_named}
 use Rattle.lq_base.specs.declared.dialect.Dialect.{Dialect}
 use Rattle.lq_base.specs.declared.literal.Literal.{Literal}
 use Rattle.lq_base.specs.declared.name.Name.{Name}
-use Rattle.lq_base.specs.declared.value.Value.{Value}
 use Rattle.lq_chain.specs.History.{History, changed}
-use Rattle.lq_chain.specs.Marks.{replaced}
 use Rattle.lq_decide.proofs.OneTable.{none_loose}
 use Rattle.lq_decide.specs.Faults.{meets, names_set, set_child}
 use Rattle.lq_model.proofs.Lists.{and_no_right, any-append, any_less, not_false, or_left, or_right, same_name, true_false, whether}
@@ -17,9 +15,10 @@ use Rattle.lq_model.specs.Names.{same_names}
 use Rattle.lq_model.specs.ResultTests.{is_loose, lacks_parent, misses_target}
 use Rattle.lq_model.specs.Sound.{IsSound}
 use Rattle.lq_model.specs.TableNames.{target_lists}
+use Rattle.lq_model.specs.Update.{edited}
 use Rattle.lq_model.specs.declared.constraint.ForeignKey.{ForeignKey}
+use Rattle.lq_model.specs.declared.test.Test.{Test}
 use Rattle.lq_rowops.specs.Edits.{sets_target}
-use Rattle.lq_rows.specs.Stored.{with_all}
 
 -- a test of two lists, one after another
 pub any_two : {A : Type 0} (p : A → Bool) (a b : List A) → list_any p (a ++ b) ≡ (list_any p a || list_any p b)
@@ -45,8 +44,8 @@ module _ (t : Name) (sets : List (Name × Literal)) (c : Catalogue) (unset : set
       (λ e hit. and_no_right _ _ (any_less (λ f. (is_named t f.table && meets (names_set sets) f.targets) && list_any (lacks_parent c e.1.columns f) e.1.rows) (misses_target c) e.1.foreign
       (λ f hits. ap (λ b. b && list_any (lacks_parent c e.1.columns f) e.1.rows) (unaimed f hits)) hit)) aimed
 
--- other rows leave each foreign key its targets
-pub aimed_still : (d : Dialect) (t : Name) (c : Catalogue) (h e : History Catalogue) (rows : List (Option (List Value))) → IsSound d c → table_of c t ≡ Some (the_table c t)
-    → e ≡ changed h (with_table c t (with_all (replaced rows) (the_table c t))) → is_loose e.now ≡ false
-aimed_still d t c h e rows sound there is =
-    subst (λ (x : History Catalogue). is_loose x.now ≡ false) (sym is) (none_loose d c t sound there (with_all (replaced rows) (the_table c t)) (λ ns k. k) (λ p k. k))
+-- new rows leave each foreign key its targets
+pub aimed_still : (d : Dialect) (t : Name) (c : Catalogue) (h e : History Catalogue) (sets : List (Name × Literal)) (test : Option Test) → IsSound d c → table_of c t ≡ Some (the_table c t)
+    → e ≡ changed h (with_table c t (edited sets test (the_table c t))) → is_loose e.now ≡ false
+aimed_still d t c h e sets test sound there is =
+    subst (λ (x : History Catalogue). is_loose x.now ≡ false) (sym is) (none_loose d c t sound there (edited sets test (the_table c t)) (λ ns k. k) (λ p k. k))

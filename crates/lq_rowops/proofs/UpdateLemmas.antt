@@ -38,7 +38,6 @@ use Rattle.lq_rowops.specs.Edits.{aims, edit, is_some_such, loses, strays}
 use Rattle.lq_rowops.specs.Updated.{result_tests, stated_tests}
 use Rattle.lq_rows.proofs.Continued.{goes_on, stays}
 use Rattle.lq_rows.specs.Answers.{Carries, Continues, Means}
-use Rattle.lq_rows.specs.Stored.{with_all}
 use Rattle.lq_rows.specs.declared.fault.RunFault.{RunFault}
 use Rattle.lq_rows.specs.declared.fault.RunFault.TheVariants.{OutOfMemory, Refused}
 
@@ -161,27 +160,23 @@ module _ (by : By) (d : Dialect) (t : Name) (sets : List (Name × Literal)) (tes
       (at_rest t (λ x. list_any (λ f. (is_named t f.table && meets (names_set sets) f.targets) && list_any (lacks_parent after x.columns f) x.rows) x.foreign) c.tables new)
       refl
 
-  module _ (h : History Catalogue) (e : History Catalogue) (by_rows : List (Option (List Value))) (nulls stray : Bool) (first tests : Tests) (verdict : Result Unit RunFault)
+  module _ (h : History Catalogue) (e : History Catalogue) (nulls stray : Bool) (first tests : Tests) (verdict : Result Unit RunFault)
       (first_is : first ≡ stated_tests by t sets test c) (passed : verdict_of first ≡ Ok tt)
-      (rows_are : by_rows ≡ rows)
       (null_is : nulls ≡ list_any (λ r. takes test it.columns r && has_bad_null it.columns (set_all sets it.columns r)) it.rows)
-      (stray_is : stray ≡ list_any (strays t sets by_rows c it.columns) it.foreign)
-      (changes : e ≡ changed h (with_table c t (with_all (replaced by_rows) it)))
+      (stray_is : stray ≡ list_any (strays t sets rows c it.columns) it.foreign)
+      (changes : e ≡ changed h after)
       (tests_are : tests ≡ result_tests t sets nulls stray (the_table e.now t) e.now)
       (means : Means (verdict_of tests) verdict) where
-    becomes : e ≡ changed h after
-    becomes = changes ∙ ap (λ rs. changed h (with_table c t (record it { rows = rs }))) (ap (λ bs. replaced bs it.rows) rows_are ∙ replaced_edits sets test it.columns it.rows)
-
     asked : verdict_of tests ≡ verdict_of (tests_of p (update_faults t sets test c))
-    asked = ap verdict_of (tests_are ∙ ap (λ (x : History Catalogue). result_tests t sets nulls stray (the_table x.now t) x.now) becomes
-        ∙ result_is nulls stray (subst (λ x. verdict_of x ≡ Ok tt) first_is passed) null_is (stray_is ∙ ap (λ bs. list_any (strays t sets bs c it.columns) it.foreign) rows_are))
+    asked = ap verdict_of (tests_are ∙ ap (λ (x : History Catalogue). result_tests t sets nulls stray (the_table x.now t) x.now) changes
+        ∙ result_is nulls stray (subst (λ x. verdict_of x ≡ Ok tt) first_is passed) null_is stray_is)
 
     goes : Continues h e
-    goes = subst (Continues h) (sym becomes) (goes_on h after)
+    goes = subst (Continues h) (sym changes) (goes_on h after)
 
     pub update_refused : (fault : RunFault) → verdict ≡ Err fault → Carries (decide p) h e (Err fault)
     update_refused fault at = refused_later p (update_faults t sets test c) h e tests fault (update_judged by d t sets test c sound) asked (subst (Means (verdict_of tests)) at means) goes
 
     pub update_done : (count : ℕ) → count ≡ p.count → verdict ≡ Ok tt → Carries (decide p) h e (Ok count)
     update_done count is at =
-        (passes p (update_faults t sets test c) tests (update_judged by d t sets test c sound) asked (subst (Means (verdict_of tests)) at means) ∙ ap (λ (x : History Catalogue). Ok (x.now, p.count)) (sym becomes) ∙ ap (λ n. Ok (e.now, n)) (sym is), goes)
+        (passes p (update_faults t sets test c) tests (update_judged by d t sets test c sound) asked (subst (Means (verdict_of tests)) at means) ∙ ap (λ (x : History Catalogue). Ok (x.now, p.count)) (sym changes) ∙ ap (λ n. Ok (e.now, n)) (sym is), goes)

@@ -17,8 +17,9 @@ use Rattle.lq_model.specs.Truth.{names_in, takes}
 use Rattle.lq_model.specs.Update.{set_all, set_value_of}
 use Rattle.lq_model.specs.declared.caller.By.{By}
 use Rattle.lq_model.specs.declared.test.Test.{Test}
-use Rattle.lq_rowops.specs.Edits.{edit, loses, set_twins, value_set}
-use Rattle.lq_rowops.specs.declared.updating.Changes.{Changes}
+use Rattle.lq_rowops.specs.Edits.{edit, loses, set_twins, strays, value_set}
+use Rattle.lq_rowops.specs.declared.changing.Changes.{Changes}
+use Rattle.lq_rowops.specs.declared.changing.NewRows.{NewRows}
 use Rattle.lq_rowops.specs.declared.updating.Stated.{Stated}
 
 abbrev pub no_tests : Tests
@@ -38,10 +39,10 @@ stated_tests by t sets test c =
 
 -- what is asked of the table after it, where it is known whether a new row has a bad null or no parent
 abbrev pub result_tests : Name → List (Name × Literal) → Bool → Bool → Table → Catalogue → Tests
-result_tests t sets nulls strays new after = record no_tests {
+result_tests t sets nulls stray new after = record no_tests {
   nulls = nulls;
   twins = list_any (set_twins sets new) (unique_lists new);
-  orphans = strays || list_any (loses t sets after new.columns new.rows) new.foreign;
+  orphans = stray || list_any (loses t sets after new.columns new.rows) new.foreign;
   children = list_any (set_child t sets after after) after.tables;
 }
 
@@ -50,7 +51,13 @@ pub record IsStated (by : By) (t : Name) (sets : List (Name × Literal)) (test :
   pub values : stated.values ≡ map (value_set (the_table c t).columns) sets
 
 -- the new rows, how many they are, and whether one has a null in a NOT NULL column
-pub record AreChanges (sets : List (Name × Literal)) (test : Option Test) (it : Table) (changes : Changes) : Type 0 where
-  pub rows : changes.rows.items ≡ map (edit sets test it.columns) it.rows
-  pub count : changes.count ≡ length (filter (takes test it.columns) it.rows)
-  pub nulls : changes.has_null ≡ list_any (λ r. takes test it.columns r && has_bad_null it.columns (set_all sets it.columns r)) it.rows
+pub record AreNewRows (sets : List (Name × Literal)) (test : Option Test) (it : Table) (new : NewRows) : Type 0 where
+  pub rows : new.rows.items ≡ map (edit sets test it.columns) it.rows
+  pub count : new.count ≡ length (filter (takes test it.columns) it.rows)
+  pub nulls : new.has_null ≡ list_any (λ r. takes test it.columns r && has_bad_null it.columns (set_all sets it.columns r)) it.rows
+
+-- the same without the rows, and whether one has no parent by a foreign key that is asked before the change
+pub record AreChanges (t : Name) (sets : List (Name × Literal)) (test : Option Test) (c : Catalogue) (changes : Changes) : Type 0 where
+  pub count : changes.count ≡ length (filter (takes test (the_table c t).columns) (the_table c t).rows)
+  pub nulls : changes.has_null ≡ list_any (λ r. takes test (the_table c t).columns r && has_bad_null (the_table c t).columns (set_all sets (the_table c t).columns r)) (the_table c t).rows
+  pub stray : changes.is_stray ≡ list_any (strays t sets (map (edit sets test (the_table c t).columns) (the_table c t).rows) c (the_table c t).columns) (the_table c t).foreign

@@ -58,7 +58,7 @@ fn set_all(
 }
 
 /// The new row, where the test takes the old one.
-fn edit(
+pub fn edit(
     alloc: Global,
     columns: &[Column],
     test: &Option<Test>,
@@ -110,7 +110,8 @@ pub fn has_null(columns: &[Column], by: &[Option<Row>]) -> bool
     by.iter().any(|new| is_null_in(columns, new))
 }
 
-fn is_null_in(columns: &[Column], new: &Option<Row>) -> bool
+/// Whether a NOT NULL column of the new row, where there is one, holds null.
+pub fn is_null_in(columns: &[Column], new: &Option<Row>) -> bool
     ensures { result ≡ is_some_such (has_bad_null columns.now) new.now }
 {
     match new {

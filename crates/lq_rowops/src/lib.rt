@@ -1,6 +1,7 @@
 //! What INSERT and UPDATE do.
 #![tactic(auto)]
 
+mod changing;
 mod edit;
 mod inserting;
 mod orphan;

@@ -1,18 +1,16 @@
 ghost use Rattle.std.specs.List.{list_any};
-ghost use Rattle.std.specs.Prelude.{◌≡◌, IfOk, false, map};
+ghost use Rattle.std.specs.Prelude.{◌≡◌, IfOk, false};
 ghost use Rattle.lq_model.specs.Catalogue.{the_table};
 ghost use Rattle.lq_model.specs.Plan.{decide};
 ghost use Rattle.lq_model.specs.ResultTests.{is_loose};
 ghost use Rattle.lq_model.specs.Sound.{IsSound};
 ghost use Rattle.lq_model.specs.Update as spec;
 ghost use Rattle.lq_rows.specs.Answers.{Carries};
-ghost use Rattle.lq_rowops.specs.Edits.{value_set};
-ghost use Rattle.lq_rowops.specs.Updated.{AreChanges, IsStated, result_tests};
+ghost use Rattle.lq_rowops.specs.Updated.{IsStated, result_tests};
 
-use crate::edit::{count, edits, has_null};
+use crate::changing::change;
 use crate::orphan::{children_lost, loses_one};
 use crate::setting::{lacks_set, repeats_set, set_values};
-use crate::stray::is_stray_by;
 use crate::tested::{compares_wrongly, lacks_tested};
 use crate::twins::has_twins;
 use lq_arm::Tests;
@@ -20,7 +18,6 @@ use lq_base::{Dialect, Items, Literal, Name, NoMemory, Value};
 use lq_model::{By, Column, Test};
 use lq_parts::{Parts, RunFault};
 use lq_query::is_reserved;
-use lq_rows::Row;
 use std::alloc::Global;
 
 /// The columns of the table of the name; none where there is none.
@@ -69,45 +66,6 @@ fn stated_by(
     Ok(Stated {
         tests,
         values: set.values,
-    })
-}
-
-/// For each row of the table the new one in its place, where the test takes it.
-#[derive(Drop)]
-pub struct Changes {
-    pub rows: Vec<Option<Row>>,
-    pub count: usize,
-    /// A NOT NULL column of a new row holds null.
-    pub has_null: bool,
-}
-
-fn changes_by(
-    alloc: Global,
-    parts: &Parts,
-    table: &Name,
-    sets: &[(Name, Literal)],
-    values: &[Value],
-    test: &Option<Test>,
-) -> Result<Changes, NoMemory>
-    requires { values.now ≡ map (value_set (the_table parts.now.now table.now).columns) sets.now }
-    ensures { IfOk result
-        (λ changes. AreChanges sets.now test.now (the_table parts.now.now table.now) changes) }
-{
-    let Some(held) = parts.table(table) else {
-        return Ok(Changes {
-            rows: Vec::new(alloc),
-            count: 0,
-            has_null: false,
-        });
-    };
-    let columns = held.columns();
-    let rows = edits(alloc, columns, test, sets, values, held.rows())?;
-    let count = count(&rows);
-    let has_null = has_null(columns, &rows);
-    Ok(Changes {
-        rows,
-        count,
-        has_null,
     })
 }
 
@@ -171,10 +129,15 @@ pub fn update(
         Ok(()) => {}
         Err(fault) => return Err(fault),
     }
-    let changes = changes_by(alloc, parts, table, sets, stated.values.as_slice(), test)?;
-    let is_stray = is_stray_by(parts, alloc, table, sets, &changes.rows)?;
-    parts.replace_some(alloc, table, changes.rows)?;
-    let tests = tested(alloc, parts, table, sets, changes.has_null, is_stray)?;
+    let changes = change(parts, alloc, table, sets, stated.values.as_slice(), test)?;
+    let tests = tested(
+        alloc,
+        parts,
+        table,
+        sets,
+        changes.has_null,
+        changes.is_stray,
+    )?;
     match tests.verdict() {
         Ok(()) => Ok(changes.count as u64),
         Err(fault) => Err(fault),

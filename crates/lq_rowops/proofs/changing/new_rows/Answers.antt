@@ -4,7 +4,7 @@ use Rattle.lq_model.specs.Catalogue.{no_table, table_of, the_table}
 use Rattle.lq_model.specs.Row.{has_bad_null}
 use Rattle.lq_rowops.proofs.UpdateLemmas.{any_edits, count_edits}
 use Rattle.lq_rowops.specs.Edits.{edit, is_some_such}
-use Rattle.lq_rowops.proofs.updating.changes_by.Goals as goal
+use Rattle.lq_rowops.proofs.changing.new_rows.Goals as goal
 
 pub returns : goal.returns
 returns c =
