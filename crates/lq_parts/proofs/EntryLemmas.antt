@@ -1,5 +1,6 @@
 -- Lemmas on entries in the order of their names.
-use Rattle.std.proofs.Common.{Bool, List, None, Some, [], ap, arith, cond, false, is_eq, is_le, is_some, length, not, refl, slice_index_or, slice_set, subst, suc, sym, true, true≢false, zero, ℕ, ◌+◌, ◌∙◌, ◌∷◌, ◌≡◌, ◌≤◌, ◌<◌, ◌&&◌}
+use Rattle.std.proofs.Common.{Bool, List, None, Some, [], ap, arith, cond, false, is_eq, is_le, is_some, length, length-append, not, refl, slice_index_or, slice_set, subst, suc, sym, true, true≢false, zero, ℕ, ◌+◌, ◌++◌, ◌∙◌, ◌∷◌, ◌≡◌, ◌≤◌, ◌<◌, ◌&&◌}
+use Rattle.std.proofs.Math.Seq.{get_or-append_seam}
 use Rattle.std.proofs.lemmas.List.Sums.{prefix_len-le-length}
 use Rattle.std.specs.BTreeMap.{insert_entry}
 use Rattle.std.specs.Cmp.Lexicographic.{nat_list_cmp_total}
@@ -108,6 +109,16 @@ module _ {X : Type 0} where
       let rest : i ≡ place_of n es = place_is n es i (omega (arith, le)) (λ k d a b. low (suc k) d (omega arith) (omega (arith, b))) (λ k d a b. high (suc k) d (omega (arith, a)) (omega (arith, b))) in
       let one : suc (place_of n es) ≡ 1 + place_of n es = omega arith in
       ap suc rest ∙ one ∙ sym (ap (λ b. cond (not b) (1 + place_of n es) 0) goes)
+
+  -- a name behind all entries
+  pub place_end : (n : Name) (es front : List (Name × X)) (last : Name × X) → IsOrdered es → es ≡ front ++ last ∷ [] → is_lt (name_cmp last.0 n) ≡ true → length es ≡ place_of n es
+  place_end n es front last ordered is less =
+      let count : length es ≡ length front + 1 = ap length is ∙ length-append front (last ∷ []) in
+      let within : length front < length es = omega (arith, count) in
+      let last_less : (d : Name × X) → is_lt (name_cmp (slice_index_or es (length front) d).0 n) ≡ true = λ d.
+      ap (λ (xs : List (Name × X)). is_lt (name_cmp (slice_index_or xs (length front) d).0 n)) is ∙ (ap (λ (e : Name × X). is_lt (name_cmp e.0 n)) (get_or-append_seam front last [] d) ∙ less)
+      in
+      place_is n es (length es) (omega arith) (λ k d a b. parted n es ordered k (length front) d (omega (arith, b, count)) within (last_less d)) (λ k d a b. absurd (omega (arith, a, b)))
 
   -- what stands there
 

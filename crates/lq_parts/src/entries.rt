@@ -13,6 +13,12 @@ pub fn place<T>(entries: &[(Name, T)], name: &Name) -> usize
     ensures value { result ≡ place_of name.now entries.now }
     ensures fits { result ≤ length entries.now }
 {
+    if let Some((last, _)) = entries.split_last() {
+        // Most names come in their order, each behind those that are there.
+        if last.0.cmp(name).is_lt() {
+            return entries.len();
+        }
+    }
     entries.partition_point(|entry| entry.0.cmp(name).is_lt())
 }
 
