@@ -57,12 +57,12 @@ use Rattle.lq_turns.proofs.Returns.{rollback_resumes}
 use Rattle.lq_turns.proofs.Rolled.{rollback_leaves}
 use Rattle.lq_turns.proofs.Stands.{rollback_stops, sync_stops, update_stops}
 use Rattle.lq_turns.proofs.Trails.{update_resumes}
-use Rattle.lq_turns.proofs.Updates.{update_leaves}
+use Rattle.lq_turns.proofs.Updates.{free_before, freed, update_leaves}
 use Rattle.lq_turns.specs.Again.{are_twins, has_own_sum}
 use Rattle.lq_turns.specs.Contents.{Contents, contents_of}
 use Rattle.lq_turns.specs.Deed.{all_done}
 use Rattle.lq_turns.specs.Faults.{faults}
-use Rattle.lq_turns.specs.Laws.{AreKnown, AreRead, at_rest, rollback_calls}
+use Rattle.lq_turns.specs.Laws.{AreKnown, AreRead, IsAtRest, at_rest, rollback_calls}
 use Rattle.lq_turns.specs.Ran.{RanSince, Run as RunOf, are_reversible}
 use Rattle.lq_turns.specs.Rollback.{rollback_of, rows_kept, rows_undone, undo_turns}
 use Rattle.lq_turns.specs.Script.{calls_unless, clearing, closing, last_row, release_calls, tag_of, update_calls}
@@ -90,6 +90,7 @@ use Rattle.lq_top.proofs.Written.{Does, IsWritten, failed_unfinished, false_true
 use Rattle.lq_top.specs.Asks.{Asks, Files}
 use Rattle.lq_top.specs.Bytes.{Becomes, IsLeftOn, Opens, most_bytes}
 use Rattle.lq_entries.specs.Log.{entries_in}
+use Rattle.lq_top.specs.Headline.{HoldsAtRest}
 use Rattle.lq_top.specs.Jobs.{DoesLine, IsLoaded, command_by, is_on_file, job_script}
 use Rattle.lq_top.specs.Resumed.{BackHeld, EndsSo, LeavesMarked, RehearsalHeld, RollbackResumes, StandsHeld, UpdateHeld, UpdateResumes, turns_to, without_stop}
 use Rattle.lq_top.specs.Run.{EndsBy, HoldsSame, IsOutside, Runs, given_by, is_over}
@@ -128,13 +129,13 @@ or_nothing : (o : Option Status) → option_or o None ≡ o
 or_nothing None = refl
 or_nothing (Some x) = refl
 
-faultless : (given : Given) (database : Database) (s : Status) → database.lock ≡ free → own_halt given database ≡ None → EndsBy (refusal command.Update given database) s → is_over s ≡ true → faults (sets_in given) database.rows ≡ []
+faultless : (given : Given) (database : Database) (s : Status) → database.lock.locked ≡ false → own_halt given database ≡ None → EndsBy (refusal command.Update given database) s → is_over s ≡ true → faults (sets_in given) database.rows ≡ []
 faultless given database s unlocked goes ends over =
     no_faults s (faults (sets_in given) database.rows)
     (subst (λ (o : Option Status). EndsBy o s)
     (ap (option_or (unready given database)) goes
     ∙ (or_nothing (unready given database)
-    ∙ ap (λ (lock : Lock). option_or (if lock.locked then Some (status.Locked lock) else None) (invalid given database.rows)) unlocked))
+    ∙ ap (λ (held : Bool). option_or (if held then Some (status.Locked database.lock) else None) (invalid given database.rows)) unlocked))
     ends)
     over
 
@@ -142,10 +143,10 @@ faultless given database s unlocked goes ends over =
 
 abbrev UpdatesAt : Dialect → Type 0
 UpdatesAt d = (stamp : Stamp) (g : Changelog AnyChange) (start database : Database)
-    → IsSound d start.users → start.lock ≡ free → AreRead d any_meaning g.sets → list_all has_own_sum g.sets ≡ true → are_twins g.sets ≡ false
+    → IsSound d start.users → AreRead d any_meaning g.sets → list_all has_own_sum g.sets ≡ true → are_twins g.sets ≡ false
     → IsSteady d any_meaning stamp g (contents_of start)
     → IsStopped start (λ who. update_calls d any_meaning (record stamp { who = who }) g) database
-    → SameDatabase (left_by d (update_calls d any_meaning stamp g database) database) (at_rest start (updated d any_meaning stamp.reading g (contents_of start)).contents)
+    → IsAtRest start (updated d any_meaning stamp.reading g (contents_of start)).contents (left_by d (update_calls d any_meaning stamp g database) database)
     × ((updated d any_meaning stamp.reading g (contents_of database)).stop ≡ (updated d any_meaning stamp.reading g (contents_of start)).stop)
 
 updates_at : (d : Dialect) → d ≡ Postgresql → UpdatesAt d
@@ -153,10 +154,10 @@ updates_at d is = subst UpdatesAt (sym is) (update_resumes any_meaning kept)
 
 abbrev RollsBackAt : Dialect → Type 0
 RollsBackAt d = (stamp : Stamp) (sets : List (Set AnyChange)) (target : Target) (before : Contents) (xs : List (RunOf AnyChange)) (start database : Database)
-    → is_by_count target ≡ false → start.lock ≡ free → RanSince d any_meaning before xs (contents_of start) → are_reversible d any_meaning xs before.users ≡ true → AreKnown d any_meaning sets xs
+    → is_by_count target ≡ false → RanSince d any_meaning before xs (contents_of start) → are_reversible d any_meaning xs before.users ≡ true → AreKnown d any_meaning sets xs
     → rows_kept target start.rows ≡ Some (length before.rows) → list_all (λ (x : RunOf AnyChange). x.set.in_transaction) xs ≡ true
     → IsStopped start (λ who. calls_to d any_meaning (record stamp { who = who }) sets target) database
-    → SameDatabase (left_by d (calls_to d any_meaning stamp sets target database) database) (at_rest database before)
+    → IsAtRest start before (left_by d (calls_to d any_meaning stamp sets target database) database)
 
 rolls_back_at : (d : Dialect) → d ≡ Postgresql → RollsBackAt d
 rolls_back_at d is = subst RollsBackAt (sym is) (rollback_resumes any_meaning kept)
@@ -210,11 +211,17 @@ module _ (job : Job) (given : Given) (before : Option (List ℕ)) (done : Result
 mended_at : (part : Given) (start database : Database) → part.options.dialect ≡ Mysql
     → SameDatabase (left_by Mysql (update_calls Mysql any_meaning part.stamp (log_in part) database) database) (at_rest start (updated Mysql any_meaning part.stamp.reading (log_in part) (contents_of start)).contents)
     × ((updated Mysql any_meaning part.stamp.reading (log_in part) (contents_of database)).stop ≡ (updated Mysql any_meaning part.stamp.reading (log_in part) (contents_of start)).stop)
-    → SameDatabase (left_by part.options.dialect (update_script part database) database) (at_rest start (without_stop part start).contents)
+    → IsAtRest start (without_stop part start).contents (left_by part.options.dialect (update_script part database) database)
     × ((updated part.options.dialect any_meaning part.stamp.reading (log_in part) (contents_of database)).stop ≡ (without_stop part start).stop)
 mended_at part start database is law =
-    subst (λ (d : Dialect). SameDatabase (left_by d (update_calls d any_meaning part.stamp (log_in part) database) database) (at_rest start (updated d any_meaning part.stamp.reading (log_in part) (contents_of start)).contents)
-    × ((updated d any_meaning part.stamp.reading (log_in part) (contents_of database)).stop ≡ (updated d any_meaning part.stamp.reading (log_in part) (contents_of start)).stop)) (sym is) law
+    subst (λ (d : Dialect). IsAtRest start (updated d any_meaning part.stamp.reading (log_in part) (contents_of start)).contents (left_by d (update_calls d any_meaning part.stamp (log_in part) database) database)
+    × ((updated d any_meaning part.stamp.reading (log_in part) (contents_of database)).stop ≡ (updated d any_meaning part.stamp.reading (log_in part) (contents_of start)).stop)) (sym is)
+    (freed start (left_by Mysql (update_calls Mysql any_meaning part.stamp (log_in part) database) database) _ law.0, law.1)
+
+-- what rests, behind a database whose lock was free
+free_again : (d : Dialect) (told : Option (List ℕ)) (start : Database) (contents : Contents) → start.lock ≡ free → HoldsAtRest d told start contents → HoldsSame d told (at_rest start contents)
+free_again d told start contents unlocked is =
+    (is.0, is.1, free_before start is.0 contents unlocked is.2)
 
 module _ {words : List (List ℕ)} {files : Files} (asks : Asks words files) (stamp : Stamp) (before : Option (List ℕ)) (done : Result Done Status) (s : Status) (after : Option (List ℕ)) where
   abbrev given : Given
@@ -227,13 +234,13 @@ module _ {words : List (List ℕ)} {files : Files} (asks : Asks words files) (st
 
   abbrev GoesOn : Given → Database → Database → Type 0
   GoesOn part start database =
-      SameDatabase (left_by part.options.dialect (update_script part database) database) (at_rest start (without_stop part start).contents)
+      IsAtRest start (without_stop part start).contents (left_by part.options.dialect (update_script part database) database)
       × ((updated part.options.dialect any_meaning part.stamp.reading (log_in part) (contents_of database)).stop ≡ (without_stop part start).stop)
 
   gone_on : (out_before out_after : Option (List ℕ)) → IsWritten done s → DoesLine asks.line.job (given_by asks stamp) before done after → Runs asks stamp before s after → Said asks stamp before s out_before out_after
-      → (part : Given) (start database : Database) → Opens d before database → command_by asks.line.job (given_by asks stamp) database ≡ Some (command.Update, part) → database.lock ≡ free → IsSteady part.options.dialect any_meaning part.stamp (log_in part) (contents_of start) → is_over s ≡ true
+      → (part : Given) (start database : Database) → Opens d before database → command_by asks.line.job (given_by asks stamp) database ≡ Some (command.Update, part) → database.lock.locked ≡ false → IsSteady part.options.dialect any_meaning part.stamp (log_in part) (contents_of start) → is_over s ≡ true
       → (AreRead part.options.dialect any_meaning (sets_in part) → All HasShortTexts part.changelog.sets → list_all has_own_sum (sets_in part) ≡ true → are_twins (sets_in part) ≡ false → GoesOn part start database)
-      → HoldsSame part.options.dialect after (at_rest start (without_stop part start).contents) × EndsSo (status_by (without_stop part start).stop) s
+      → HoldsAtRest part.options.dialect after start (without_stop part start).contents × EndsSo (status_by (without_stop part start).stop) s
   gone_on out_before out_after by does runs said part start database opens is unlocked steady over law =
       let job = asks.line.job in
       let run : Command × Given = (command.Update, part) in
@@ -254,7 +261,7 @@ module _ {words : List (List ℕ)} {files : Files} (asks : Asks words files) (st
   has_resumed out_before out_after by does runs said = λ database opens was over.
       let part = was.part in
       gone_on out_before out_after by does runs said part was.start database opens was.is_update was.stopped.unlocked was.steady over
-      (λ read short own apart. updates_at part.options.dialect was.is_postgresql part.stamp (log_in part) was.start database was.sound was.unlocked read own apart was.steady was.stopped)
+      (λ read short own apart. updates_at part.options.dialect was.is_postgresql part.stamp (log_in part) was.start database was.sound read own apart was.steady was.stopped)
 
   -- between stops that undo-unrecorded takes back
   pub has_mended : UndoMends → (out_before out_after : Option (List ℕ)) → IsWritten done s → DoesLine asks.line.job (given_by asks stamp) before done after → Runs asks stamp before s after → Said asks stamp before s out_before out_after
@@ -262,18 +269,19 @@ module _ {words : List (List ℕ)} {files : Files} (asks : Asks words files) (st
   has_mended mends out_before out_after by does runs said = λ database opens was over.
       let part = was.part in
       let steady = subst (λ (d : Dialect). IsSteady d any_meaning part.stamp (log_in part) (contents_of was.start)) (sym was.is_mysql) was.steady in
-      gone_on out_before out_after by does runs said part was.start database opens was.is_update was.rests steady over
+      let it = gone_on out_before out_after by does runs said part was.start database opens was.is_update (ap (λ (lock : Lock). lock.locked) was.rests) steady over
       (λ read short own apart. mended_at part was.start database was.is_mysql
       (mends part.options part.changelog part.stamp was.begin was.start database was.stops was.last was.is_mysql was.sound was.unlocked was.time (view_has part.options part.changelog short)
-      (subst (λ (d : Dialect). AreRead d any_meaning (sets_in part)) was.is_mysql read) own apart was.steady was.fits was.stopped was.led was.rests))
+      (subst (λ (d : Dialect). AreRead d any_meaning (sets_in part)) was.is_mysql read) own apart was.steady was.fits was.stopped was.led was.rests)) in
+      (free_again part.options.dialect after was.start (without_stop part was.start).contents was.unlocked it.0, it.1)
 
   pub has_gone_on_back : Runs asks stamp before s after → RollbackResumes asks stamp before s after
   has_gone_on_back runs = λ database opens was over.
       let ran = runs (ap is_on_file was.is_rollback) database opens in
-      let law = rolls_back_at d was.is_postgresql stamp (sets_in given) was.target was.before was.ran was.start database was.not_by_count was.unlocked was.since was.reversible was.known was.stays was.whole was.stopped in
+      let law = rolls_back_at d was.is_postgresql stamp (sets_in given) was.target was.before was.ran was.start database was.not_by_count was.since was.reversible was.known was.stays was.whole was.stopped in
       let made = subst (λ (job : Job). Becomes d (job_script job given database) database before after) was.is_rollback (ran.works over) in
       let calls = subst (λ (cs : List Call). Becomes d cs database before after) (same_calls given database (rows_kept was.target database.rows)) made in
-      (left_by d (calls_to d any_meaning stamp (sets_in given) was.target database) database, calls.holds, record { users = law.users; rows = law.rows; lock = law.lock })
+      (left_by d (calls_to d any_meaning stamp (sets_in given) was.target database) database, calls.holds, law)
 
 -- what a stop leaves that holds the lock
 

@@ -12,11 +12,10 @@ use Rattle.lq_seen.specs.View.{any_meaning, view_log}
 use Rattle.lq_tell.specs.declared.status.Status.{Status}
 use Rattle.lq_tell.specs.declared.status.Status.TheVariants as status
 use Rattle.lq_track.specs.Database.{Database}
-use Rattle.lq_track.specs.Lock.{free}
 use Rattle.lq_turns.specs.Contents.{Contents, contents_of}
 use Rattle.lq_turns.specs.Deed.{without_sum}
 use Rattle.lq_turns.specs.Faults.{faults}
-use Rattle.lq_turns.specs.Laws.{AreKnown, at_rest}
+use Rattle.lq_turns.specs.Laws.{AreKnown, IsAtRest, at_rest}
 use Rattle.lq_turns.specs.Ran.{RanSince, Run, are_reversible}
 use Rattle.lq_turns.specs.Rollback.{rows_kept}
 use Rattle.lq_turns.specs.Set.{Changelog}
@@ -50,12 +49,8 @@ pub record GoesBack (words : List (List ℕ)) (files : Files) (told : Option (Li
   pub stays : rows_kept target database.rows ≡ Some (length before.rows)
 
 -- A file holds a database with these contents, and its lock is free; or it is the database that was there before.
-pub record HoldsAtRest (d : Dialect) (told : Option (List ℕ)) (before : Database) (contents : Contents) : Type 0 where
-  pub now : Database
-  pub holds : Holds d told now
-  pub users : now.users ≡ contents.users
-  pub rows : now.rows ≡ contents.rows
-  pub lock : (now.lock ≡ free) ⊎ (now ≡ before)
+abbrev pub HoldsAtRest : Dialect → Option (List ℕ) → Database → Contents → Type 0
+HoldsAtRest d told before contents = (now : Database) × Holds d told now × IsAtRest before contents now
 
 -- the database of that point, its lock free, or as it was where nothing was called
 abbrev pub GoneBack : {words : List (List ℕ)} {files : Files} {told : Option (List ℕ)} → GoesBack words files told → Status → Option (List ℕ) → Type 0

@@ -18,9 +18,8 @@ use Rattle.lq_seen.specs.View.{any_meaning}
 use Rattle.lq_tell.specs.declared.status.Status.{Status}
 use Rattle.lq_tell.specs.declared.status.Status.TheVariants as status
 use Rattle.lq_track.specs.Database.{Database}
-use Rattle.lq_track.specs.Lock.{free}
 use Rattle.lq_turns.specs.Contents.{Contents, contents_of}
-use Rattle.lq_turns.specs.Laws.{AreKnown, at_rest}
+use Rattle.lq_turns.specs.Laws.{AreKnown}
 use Rattle.lq_turns.specs.Ran.{RanSince, Run, are_reversible}
 use Rattle.lq_turns.specs.Rollback.{rows_kept, rows_undone, undo_turns}
 use Rattle.lq_turns.specs.Script.{update_calls}
@@ -35,29 +34,27 @@ use Rattle.lq_turns.specs.declared.stamp.Stamp.{Stamp}
 use Rattle.lq_turns.specs.declared.turn.Turn.{Turn}
 use Rattle.lq_top.specs.Asks.{Asks, Files}
 use Rattle.lq_top.specs.Bytes.{IsLeftOn, OnFile}
-use Rattle.lq_top.specs.Headline.{log_of}
+use Rattle.lq_top.specs.Headline.{HoldsAtRest, log_of}
 use Rattle.lq_top.specs.Jobs.{command_by, job_script}
-use Rattle.lq_top.specs.Run.{HoldsSame, given_by, is_over}
+use Rattle.lq_top.specs.Run.{given_by, is_over}
 
--- A steady update in postgresql, of a changelog or each time of the same part of one, that was stopped any number of times, under any names, with release-locks between. The first began on this database.
+-- A steady update in postgresql, of a changelog or each time of the same part of one, that was stopped any number of times, under any names, with release-locks before and between. The first of all these began on this database.
 pub record UpdateStopped {words : List (List ℕ)} {files : Files} (asks : Asks words files) (stamp : Stamp) (database : Database) : Type 0 where
   pub part : Given
   pub is_update : command_by asks.line.job (given_by asks stamp) database ≡ Some (command.Update, part)
   pub is_postgresql : part.options.dialect ≡ Postgresql
   pub start : Database
   pub sound : IsSound part.options.dialect start.users
-  pub unlocked : start.lock ≡ free
   pub steady : IsSteady part.options.dialect any_meaning part.stamp (log_in part) (contents_of start)
   pub stopped : IsStopped start (λ who. update_calls part.options.dialect any_meaning (record part.stamp { who = who }) (log_in part)) database
 
--- A rollback in postgresql by tag or date, to a point since which every changeset ran for the first time and in one transaction, that was stopped any number of times, under any names, with release-locks between. The first began on this database.
+-- A rollback in postgresql by tag or date, to a point since which every changeset ran for the first time and in one transaction, that was stopped any number of times, under any names, with release-locks before and between. The first of all these began on this database.
 pub record RollbackStopped {words : List (List ℕ)} {files : Files} (asks : Asks words files) (stamp : Stamp) (database : Database) : Type 0 where
   pub target : Target
   pub is_rollback : asks.line.job ≡ Runs (command.Rollback target)
   pub not_by_count : is_by_count target ≡ false
   pub is_postgresql : asks.line.options.dialect ≡ Postgresql
   pub start : Database
-  pub unlocked : start.lock ≡ free
   -- the point: what stood there, and what ran since
   pub before : Contents
   pub ran : List (Run AnyChange)
@@ -78,14 +75,14 @@ EndsSo wanted s = (s ≡ wanted) ⊎ (s ≡ status.WriteFault)
 
 module _ {words : List (List ℕ)} {files : Files} (asks : Asks words files) (stamp : Stamp) where
   module _ (before : Option (List ℕ)) (s : Status) (after : Option (List ℕ)) where
-    -- where it comes to its end the file holds what it would have left without a stop, with a free lock, and it ends as it would have
+    -- where it comes to its end the file holds what it would have left without a stop, its lock free, or the first database where nothing was called, and it ends as it would have
     abbrev pub UpdateResumes : Type 0
     UpdateResumes = OnFile asks.line.options.dialect before (λ database. (was : UpdateStopped asks stamp database) → is_over s ≡ true
-        → HoldsSame was.part.options.dialect after (at_rest was.start (without_stop was.part was.start).contents) × EndsSo (status_by (without_stop was.part was.start).stop) s)
+        → HoldsAtRest was.part.options.dialect after was.start (without_stop was.part was.start).contents × EndsSo (status_by (without_stop was.part was.start).stop) s)
 
-    -- and a rollback leaves the database of the point
+    -- and a rollback leaves the database of the point, in the same way
     abbrev pub RollbackResumes : Type 0
-    RollbackResumes = OnFile asks.line.options.dialect before (λ database. (was : RollbackStopped asks stamp database) → is_over s ≡ true → HoldsSame asks.line.options.dialect after (at_rest was.start was.before))
+    RollbackResumes = OnFile asks.line.options.dialect before (λ database. (was : RollbackStopped asks stamp database) → is_over s ≡ true → HoldsAtRest asks.line.options.dialect after was.start was.before)
 
 -- the turns of a rollback, where its target is found and each row behind it has what takes it back
 abbrev pub turns_to : Given → Target → Database → Option (List Turn)
