@@ -4,4 +4,5 @@ pub mod Mended
 pub mod Parts
 pub mod Repaired
 pub mod Through
+pub mod Unlocked
 pub mod Updates

@@ -24,11 +24,11 @@ use Rattle.lq_turns.specs.Contents.{Contents, contents_of, with_contents}
 use Rattle.lq_turns.specs.Deed.{all_done, lock_after}
 use Rattle.lq_turns.specs.Effects.{all_fresh, inverses, not_fresh, statements_of}
 use Rattle.lq_turns.specs.First.{holds_unless, keeps_nothing, keeps_nothing_by}
-use Rattle.lq_turns.specs.Laws.{AreRead}
-use Rattle.lq_turns.specs.Script.{closing, release_calls, turn_by, update_calls}
-use Rattle.lq_turns.specs.Session.{all_called, session_on}
+use Rattle.lq_turns.specs.Laws.{AreRead, IsAtRest}
+use Rattle.lq_turns.specs.Script.{closing, has_work, release_calls, turn_by, update_calls}
+use Rattle.lq_turns.specs.Session.{all_called, left_by, session_on}
 use Rattle.lq_turns.specs.Set.{Changelog, IsKept, Meaning, Set, has_row}
-use Rattle.lq_turns.specs.Settle.{Settled, all_settled, by_own, choice, choice_of, did_of, fill_turn, followed, mark_turn, run_ending, run_turn, settle, settled_as, settled_by, tested, updated, what}
+use Rattle.lq_turns.specs.Settle.{Settled, all_settled, by_own, choice, choice_of, did_of, fill_turn, followed, is_halt, mark_turn, run_ending, run_turn, settle, settled_as, settled_by, tested, updated, what}
 use Rattle.lq_turns.specs.Stops.{IsLeft, IsSteady, Journal, has_mark, is_mark, is_skip, joined}
 use Rattle.lq_turns.specs.Turn.{Ending, Finished, Refused, contents_in, course, ending}
 use Rattle.lq_turns.specs.Within.{IsBetween, IsWithin, UpdateFront, UpdateStands, gives_way, is_refused, is_turn_refused, marks_last, none_gives_way}
@@ -49,12 +49,13 @@ use Rattle.lq_turns.proofs.Journal.{joined_both, same_ok}
 use Rattle.lq_turns.proofs.Locked.{entries_leave, led_both}
 use Rattle.lq_turns.proofs.Stands.{update_fronts}
 use Rattle.lq_turns.proofs.Stays.{IsCalm, all_sound, stays_calm}
-use Rattle.lq_turns.proofs.Updates.{run_is, stopped_is, update_leaves}
+use Rattle.lq_turns.proofs.Updates.{rests_on, run_is, stopped_is, update_rests}
 use Rattle.laws_repair.specs.Mended.{AreMended, Mark, MendsAt, UpdateMends, all_fit, by_of, fits, is_first_time, is_named_so, marked_set, the_only}
 use Rattle.laws_repair.specs.Repair.{IsPartly, IsWhole, RunsFirst, marked_text, repair_calls, standing}
 use Rattle.laws_repair.proofs.Marked.{is_read, no_mark_plain, parts_told, text_of}
 use Rattle.laws_repair.proofs.Repaired.{repair_leaves}
 use Rattle.laws_repair.proofs.Through.{holds_through, idle, through_kept, through_rest}
+use Rattle.laws_repair.proofs.Unlocked.{Waits, entries_as, locked_as, set_or_waits, work_frees}
 use Rattle.laws_repair.proofs.Updates.{partly_by}
 
 true_false : {A : Type 0} → true ≡ false → A
@@ -70,8 +71,8 @@ some_of : {B : Type 0} (o : Option B) → is_some o ≡ true → (x : B) × (o �
 some_of None is = Prim.cc
 some_of (Some x) is = (x, refl)
 
-never : {A : Type 0} (lock : Lock) → lock ≡ free → lock.locked ≡ true → A
-never lock is held = true_false (sym held ∙ ap (λ (l : Lock). l.locked) is)
+never : {A : Type 0} (lock : Lock) → lock.locked ≡ false → lock.locked ≡ true → A
+never lock is held = true_false (sym held ∙ is)
 
 and_none : (b : Bool) → (b && false) ≡ false
 and_none true = refl
@@ -79,7 +80,7 @@ and_none false = refl
 
 -- the last deed
 
-last_anew : (deeds : List Deed) (o : Option Deed) (database now : Database) → database.lock ≡ free → all_done Mysql deeds database ≡ Ok now → now.lock.locked ≡ true → last_or None deeds ≡ last_or o deeds
+last_anew : (deeds : List Deed) (o : Option Deed) (database now : Database) → database.lock.locked ≡ false → all_done Mysql deeds database ≡ Ok now → now.lock.locked ≡ true → last_or None deeds ≡ last_or o deeds
 last_anew [] o database now unlocked led held = never database.lock unlocked (ap (λ (e : Database). e.lock.locked) (same_ok Mysql led) ∙ held)
 last_anew (deed ∷ deeds) o database now unlocked led held = refl
 
@@ -336,9 +337,14 @@ module _ {Key : Type 0} (m : Meaning Key) (keeps : IsKept m) (parts : PartsBack 
         fit = fit_through m keeps stamp g.sets g.sets now ∙ subst (λ xs. holds_through Mysql m keeps stamp tests xs now ≡ true) (sym are) fit;
       }
 
-  record IsFree (now : Database) : Type 0 where
-    lock : now.lock ≡ free
+  -- no lock is held; and it is free, or nothing was done, or there is work, so that the next update frees it
+  record IsUnheld (now : Database) : Type 0 where
+    lock : now.lock.locked ≡ false
     steady : IsSteadyOn (contents_of now)
+    frees : (now.lock ≡ free) ⊎ ((now ≡ start) ⊎ (has_work g.sets now.rows ≡ true))
+
+  at_free : (now : Database) → now.lock ≡ free → IsSteadyOn (contents_of now) → IsUnheld now
+  at_free now lock steady = record { lock = ap (λ (l : Lock). l.locked) lock; steady = steady; frees = inl lock }
 
   record IsHeld (now : Database) : Type 0 where
     who : List ℕ
@@ -357,7 +363,7 @@ module _ {Key : Type 0} (m : Meaning Key) (keeps : IsKept m) (parts : PartsBack 
     partly : IsPartly Mysql stamp.reading who x.identity (statements_of Mysql m x.changes) c last now
 
   abbrev Stands : Option Deed → Database → Type 0
-  Stands last now = IsFree now ⊎ (IsHeld now ⊎ IsMarked last now)
+  Stands last now = IsUnheld now ⊎ (IsHeld now ⊎ IsMarked last now)
 
   abbrev KeptBy : Journal → Type 0
   KeptBy journal = (now : Database) → all_done Mysql (joined journal) start ≡ Ok now → Stands (last_or None (joined journal)) now
@@ -379,11 +385,8 @@ module _ {Key : Type 0} (m : Meaning Key) (keeps : IsKept m) (parts : PartsBack 
   mark_of : (last : Option Deed) (now : Database) (is : IsMarked last now) → has_mark now.lock ≡ true
   mark_of last now is = ap has_mark is.partly.lock ∙ is_read is.partly.is_back is.who (identity_text is.x.identity) is.partly.k (some_place last now is) (small_place last now is)
 
-  freed : (before now : Database) → all_done Mysql (Locks Freed ∷ []) before ≡ Ok now → IsSteadyOn (contents_of before) → IsFree now
-  freed before now led steady = record {
-    lock = sym (ap (λ (e : Database). e.lock) (same_ok Mysql led));
-    steady = subst IsSteadyOn (ap contents_of (same_ok Mysql led)) steady;
-  }
+  freed : (before now : Database) → all_done Mysql (Locks Freed ∷ []) before ≡ Ok now → IsSteadyOn (contents_of before) → IsUnheld now
+  freed before now led steady = at_free now (sym (ap (λ (e : Database). e.lock) (same_ok Mysql led))) (subst IsSteadyOn (ap contents_of (same_ok Mysql led)) steady)
 
   -- what is left, where it is known what stands at the front
   left_stands : (calls : List Call) (database : Database) (before after : Journal) → all_done Mysql (joined before) start ≡ Ok database → (left : IsLeft Mysql calls database before after)
@@ -411,7 +414,7 @@ module _ {Key : Type 0} (m : Meaning Key) (keeps : IsKept m) (parts : PartsBack 
     unmarked none (inr (inr marked)) = true_false (sym (mark_of (last_or (last_or None (joined before)) (joined left.front)) left.now marked) ∙ none)
 
   -- an update
-  module _ (who : List ℕ) (plain : list_any (λ b. b == 124) who ≡ false) (database : Database) (here : IsFree database) (last : Option Deed) (front rest : Journal) (now : Database)
+  module _ (who : List ℕ) (plain : list_any (λ b. b == 124) who ≡ false) (database : Database) (here : IsUnheld database) (last : Option Deed) (front rest : Journal) (now : Database)
       (is : (all_called Mysql (update_calls Mysql m (record stamp { who = who }) g database) (session_on database)).entries ≡ front ++ rest) (led : all_done Mysql (joined front) database ≡ Ok now) where
     abbrev by : Stamp
     by = record stamp { who = who }
@@ -445,10 +448,18 @@ module _ {Key : Type 0} (m : Meaning Key) (keeps : IsKept m) (parts : PartsBack 
               (partly_by m keeps parts Mysql by x c (last_or None (joined front)) now read_x steady.calm.sound one.runs turn one.is within);
         }
 
-    update_stands : Stands (last_or last (joined front)) now
-    update_stands =
+    -- where nothing set the lock it is not held
+    waiting : Waits Mysql m by g database now → IsUnheld now
+    waiting waits = elim waits.1 as (λ _. IsUnheld now) [
+      | inl same ↦ subst IsUnheld (sym same) here
+      | inr same ↦ record { lock = waits.0 ∙ here.lock; steady = subst IsSteadyOn (sym same.0) here.steady; frees = inr (inr (ap (λ (c : Contents). has_work g.sets c.rows) same.0 ∙ same.1)) }
+    ]
+
+    setting : all_done Mysql (joined front) (locked_as free database) ≡ Ok now → Stands (last_or last (joined front)) now
+    setting led_free =
         let none = none_gives m keeps stamp g.sets g.sets first read here.steady.calm.sound here.steady.calm.none_skipped in
-        let fronts : UpdateFront Mysql m by g.sets first (last_or None (joined front)) now = update_fronts m keeps Mysql by g database now front rest here.steady.calm.sound read here.lock none is led in
+        let fronts : UpdateFront Mysql m by g.sets first (last_or None (joined front)) now = update_fronts m keeps Mysql by g (locked_as free database) now front rest here.steady.calm.sound read refl none
+        (entries_as Mysql (update_calls Mysql m by g database) database free ∙ is) led_free in
         elim fronts as (λ _. Stands (last_or last (joined front)) now) [
           | inl held ↦
               let s = held.1 in
@@ -458,12 +469,18 @@ module _ {Key : Type 0} (m : Meaning Key) (keeps : IsKept m) (parts : PartsBack 
                 | inr within ↦ inr (inr (at_turn s.turns s.rest s.are s.goes_on held.0 within.0 within.1 within.2 within.3 within.4 within.5))
               ]
           | inr idle ↦ elim idle.1 as (λ _. Stands (last_or last (joined front)) now) [
-            | inl same ↦ inl (record { lock = idle.0; steady = subst IsSteadyOn (sym same) here.steady })
+            | inl same ↦ inl (at_free now idle.0 (subst IsSteadyOn (sym same) here.steady))
             | inr all ↦
                 let w = wholly m keeps stamp g.sets g.sets first read here.steady.calm.sound here.steady.fit in
-                inl (record { lock = idle.0; steady = subst IsSteadyOn (w.same ∙ sym all) (turns_keep w.turns w.rest first w.are w.goes_on here.steady) })
+                inl (at_free now idle.0 (subst IsSteadyOn (w.same ∙ sym all) (turns_keep w.turns w.rest first w.are w.goes_on here.steady)))
           ]
         ]
+
+    update_stands : Stands (last_or last (joined front)) now
+    update_stands = elim (set_or_waits Mysql m by g database front rest now led is) as (λ _. Stands (last_or last (joined front)) now) [
+      | inl sets ↦ setting sets
+      | inr waits ↦ inl (waiting waits)
+    ]
 
   -- a repair
   module _ (database : Database) (last : Option Deed) (here : IsMarked last database) where
@@ -506,7 +523,7 @@ module _ {Key : Type 0} (m : Meaning Key) (keeps : IsKept m) (parts : PartsBack 
         → Stands (last_or last (joined front)) now
     repair_stands front rest now is led =
         elim ((repair_leaves Mysql stamp.reading here.who here.x.identity (statements_of Mysql m here.x.changes) here.c last database p).1 front rest now is led) as (λ _. Stands (last_or last (joined front)) now) [
-          | inl whole ↦ inl (record { lock = whole.lock; steady = subst IsSteadyOn (sym whole.contents) here.steady })
+          | inl whole ↦ inl (at_free now whole.lock (subst IsSteadyOn (sym whole.contents) here.steady))
           | inr part ↦ inr (inr (record { who = here.who; plain = here.plain; c = here.c; steady = here.steady; x = here.x; only = here.only; counted = here.counted; partly = part }))
         ]
 
@@ -519,9 +536,6 @@ module _ {Key : Type 0} (m : Meaning Key) (keeps : IsKept m) (parts : PartsBack 
         inl (freed database now (ap (λ es. all_done Mysql (joined (es ∷ [])) database) (sym (one_entry e rest is)) ∙ led) here.steady) where
           one_entry : (e : List Deed) (rest : Journal) → (all_called Mysql (closing ∷ []) (session_on database)).entries ≡ e ∷ rest → e ≡ Locks Freed ∷ []
           one_entry e rest is = Prim.cc
-
-  free_by : {A : Type 0} (lock : Lock) → lock ≡ free → Mark lock → A
-  free_by lock is mark = none_some (sym (ap (λ (l : Lock). l.by) is) ∙ mark.is)
 
   held_by : {A : Type 0} (lock : Lock) (who : List ℕ) → list_any (λ b. b == 124) who ≡ false → lock ≡ taken (pos stamp.reading) who → Mark lock → A
   held_by lock who plain is mark = no_mark_plain mark.is_back who mark.who mark.name (suc mark.k) plain (some_same (sym (ap (λ (l : Lock). l.by) is) ∙ mark.is))
@@ -542,12 +556,12 @@ module _ {Key : Type 0} (m : Meaning Key) (keeps : IsKept m) (parts : PartsBack 
             ])
         | inr other ↦ elim other as (λ _. KeptBy after) [
           | inl repaired ↦ elim stands as (λ _. KeptBy after) [
-            | inl here ↦ free_by database.lock here.lock repaired.0
+            | inl here ↦ never database.lock here.lock repaired.0
             | inr more ↦ elim more as (λ _. KeptBy after) [
-              | inl held ↦ held_by database.lock held.who held.plain held.lock repaired.0
+              | inl held ↦ held_by database.lock held.who held.plain held.lock repaired.1
               | inr marked ↦
                   let calls = repair_calls Mysql marked.who marked.x.identity marked.partly.first database in
-                  let left : IsLeft Mysql calls database before after = subst (λ cs. IsLeft Mysql cs database before after) (calls_same database last marked repaired.0 repaired.1 repaired.2) repaired.3 in
+                  let left : IsLeft Mysql calls database before after = subst (λ cs. IsLeft Mysql cs database before after) (calls_same database last marked repaired.1 repaired.2 repaired.3) repaired.4 in
                   left_stands calls database before after at.1 left (repair_stands database last marked left.front left.rest left.now left.entries left.led)
             ]
           ]
@@ -570,10 +584,10 @@ module _ {Key : Type 0} (m : Meaning Key) (keeps : IsKept m) (parts : PartsBack 
   trail_mends from [] to trail kept = subst KeptBy trail kept
   trail_mends from (next ∷ stops) to trail kept = trail_mends next stops to trail.1 (mends from next trail.0 kept)
 
-  free_steady : (last : Option Deed) (database : Database) → database.lock ≡ free → Stands last database → IsSteadyOn (contents_of database)
-  free_steady last database unlocked (inl here) = here.steady
-  free_steady last database unlocked (inr (inl held)) = never database.lock unlocked (ap (λ (l : Lock). l.locked) held.lock)
-  free_steady last database unlocked (inr (inr marked)) = never database.lock unlocked (ap (λ (l : Lock). l.locked) marked.partly.lock)
+  not_held : (last : Option Deed) (database : Database) → database.lock.locked ≡ false → Stands last database → IsUnheld database
+  not_held last database unlocked (inl here) = here
+  not_held last database unlocked (inr (inl held)) = never database.lock unlocked (ap (λ (l : Lock). l.locked) held.lock)
+  not_held last database unlocked (inr (inr marked)) = never database.lock unlocked (ap (λ (l : Lock). l.locked) marked.partly.lock)
 
 bare_is : {Key : Type 0} (m : Meaning Key) (stamp : Stamp) (g : Changelog Key) (c : Contents) → g.condition.told c ≡ Ok true → updated Mysql m stamp.reading g c ≡ all_settled Mysql m stamp.reading g.sets c
 bare_is m stamp g c bare = ap (λ told. by_own (tested New g.condition told) c (all_settled Mysql m stamp.reading g.sets c)) bare
@@ -582,10 +596,21 @@ pub update_mends : {Key : Type 0} (m : Meaning Key) → IsKept m → UpdateMends
 update_mends m keeps parts stamp g start database stops last sound unlocked read own apart steady fit trail led end =
     let calm : IsCalm Mysql m keeps stamp g.sets (contents_of start) = record { sound = sound; none_skipped = ap skips (sym (bare_is m stamp g (contents_of start) (steady.bare _))) ∙ steady.none_skipped; once = steady.once; whole = steady.whole } in
     let kept = trail_mends m keeps parts stamp g start read own apart [] stops last trail
-    (λ e is. inl (subst (λ (x : Database). IsFree m keeps parts stamp g start read own apart x) (same_ok Mysql is) (record { lock = unlocked; steady = record { calm = calm; same = (refl, refl); fit = fit } })))
+    (λ e is. inl (subst (λ (x : Database). IsUnheld m keeps parts stamp g start read own apart x) (same_ok Mysql is) (record { lock = unlocked; steady = record { calm = calm; same = (refl, refl); fit = fit }; frees = inr (inl refl) })))
     database led in
-    let so = free_steady m keeps parts stamp g start read own apart (last_or None (joined last)) database end kept in
-    let result = update_leaves m keeps Mysql stamp g database so.calm.sound end read in
+    let here = not_held m keeps parts stamp g start read own apart (last_or None (joined last)) database end kept in
+    let so = here.steady in
+    let now = left_by Mysql (update_calls Mysql m stamp g database) database in
     let contents = ap (λ (s : Settled). s.contents) (bare_is m stamp g (contents_of database) (steady.bare _)) ∙ so.same.0 ∙ ap (λ (s : Settled). s.contents) (sym (bare_is m stamp g (contents_of start) (steady.bare _))) in
     let stop = ap (λ (s : Settled). s.stop) (bare_is m stamp g (contents_of database) (steady.bare _)) ∙ so.same.1 ∙ ap (λ (s : Settled). s.stop) (sym (bare_is m stamp g (contents_of start) (steady.bare _))) in
-    (record { users = result.users ∙ ap (λ (c : Contents). c.users) contents; rows = result.rows ∙ ap (λ (c : Contents). c.rows) contents; lock = result.lock }, stop)
+    let rests = subst (λ c. IsAtRest database c now) contents (update_rests m keeps Mysql stamp g database so.calm.sound read) in
+    let goes = ap (λ told. is_halt (tested New g.condition told)) (steady.bare (contents_of database)) in (
+      elim here.frees as (λ _. IsAtRest start (updated Mysql m stamp.reading g (contents_of start)).contents now) [
+        | inl lock ↦ rests_on start database now _ (inl lock) rests
+        | inr more ↦ elim more as (λ _. IsAtRest start (updated Mysql m stamp.reading g (contents_of start)).contents now) [
+          | inl same ↦ rests_on start database now _ (inr same) rests
+          | inr work ↦ record { users = rests.users; rows = rests.rows; lock = inl (work_frees Mysql m stamp g database keeps so.calm.sound read work goes) }
+        ]
+      ],
+      stop,
+    )

@@ -11,10 +11,11 @@ use Rattle.lq_model.specs.declared.caller.By.TheVariants.{User}
 use Rattle.lq_model.specs.declared.statement.Statement.{Statement}
 use Rattle.lq_reverse.specs.Back.{PartsBack, backs}
 use Rattle.lq_track.specs.Database.{Database}
+use Rattle.lq_track.specs.Lock.{free}
 use Rattle.lq_turns.specs.Contents.{Contents, contents_of}
 use Rattle.lq_turns.specs.Effects.{statements_of}
 use Rattle.lq_turns.specs.Laws.{AreRead}
-use Rattle.lq_turns.specs.Script.{turn_by}
+use Rattle.lq_turns.specs.Script.{turn_by, update_calls}
 use Rattle.lq_turns.specs.Set.{IsKept, Meaning, Set}
 use Rattle.lq_turns.specs.Settle.{all_settled, choice, run_turn}
 use Rattle.lq_turns.specs.Stops.{joined}
@@ -28,6 +29,7 @@ use Rattle.lq_turns.proofs.Stands.{update_stops}
 use Rattle.lq_turns.proofs.Stays.{all_sound}
 use Rattle.laws_repair.specs.Repair.{IsPartly, PartsReturn, RunsFirst, UpdateRepairs, marked_text, standing}
 use Rattle.laws_repair.proofs.Parts.{parts_return}
+use Rattle.laws_repair.proofs.Unlocked.{entries_as, led_held, locked_as}
 
 length_more : (first : List Statement) (s : Statement) → length (first ++ s ∷ []) ≡ suc (length first)
 length_more [] s = refl
@@ -81,7 +83,8 @@ module _ {Key : Type 0} (m : Meaning Key) (keeps : IsKept m) (parts : PartsBack 
 
 pub update_repairs : {Key : Type 0} (m : Meaning Key) → IsKept m → UpdateRepairs m
 update_repairs {Key} m keeps parts d stamp g database now front rest sound read unlocked skip is led held =
-    let s : UpdateStands d m stamp g.sets (contents_of database) (last_or None (joined front)) now = update_stops m keeps d stamp g database now front rest sound read unlocked skip is led held in
+    let s : UpdateStands d m stamp g.sets (contents_of database) (last_or None (joined front)) now = update_stops m keeps d stamp g (locked_as free database) now front rest sound read refl skip
+    (entries_as d (update_calls d m stamp g database) database free ∙ is) (led_held d (joined front) database now free led unlocked held) held in
     let c = (all_settled d m stamp.reading s.turns (contents_of database)).contents in
     let all : AreRead d m (s.turns ++ s.rest) = subst (AreRead d m) s.are read in
     let test : Set Key → Bool = λ y. list_all (m.is_for d) y.changes in

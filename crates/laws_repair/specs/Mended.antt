@@ -10,14 +10,13 @@ use Rattle.lq_base.specs.declared.tracking.Lock.{Lock}
 use Rattle.lq_base.specs.declared.tracking.Tracked.{Tracked}
 use Rattle.lq_model.specs.Sound.{IsSound}
 use Rattle.lq_reverse.specs.Back.{PartsBack}
-use Rattle.lq_track.specs.Database.{Database, SameDatabase}
-use Rattle.lq_track.specs.Lock.{free}
+use Rattle.lq_track.specs.Database.{Database}
 use Rattle.lq_turns.specs.Again.{are_twins, has_own_sum}
 use Rattle.lq_turns.specs.Contents.{Contents, contents_of}
 use Rattle.lq_turns.specs.Deed.{all_done}
 use Rattle.lq_turns.specs.Effects.{all_fresh, inverses, statements_of}
 use Rattle.lq_turns.specs.First.{holds_unless, keeps_nothing_by}
-use Rattle.lq_turns.specs.Laws.{AreRead, at_rest}
+use Rattle.lq_turns.specs.Laws.{AreRead, IsAtRest}
 use Rattle.lq_turns.specs.Script.{release_calls, update_calls}
 use Rattle.lq_turns.specs.Session.{left_by}
 use Rattle.lq_turns.specs.Set.{Changelog, Meaning, Set, has_row}
@@ -73,11 +72,11 @@ module _ {Key : Type 0} (m : Meaning Key) (stamp : Stamp) where
   all_fit sets [] c = true
   all_fit sets (x ∷ xs) c = fits sets x c && holds_unless (settle Mysql m stamp.reading x c).stop (all_fit sets xs (settle Mysql m stamp.reading x c).contents)
 
-  -- one stop: of the update where the lock is free, of the repair where it has a mark, of release-locks where it is held without one
+  -- one stop: of the update where no lock is held, of the repair where it is held with a mark, of release-locks where it is held without one
   abbrev pub MendsAt : Changelog Key → Database → Journal → Journal → Type 0
   MendsAt g start before after = (database : Database) × (all_done Mysql (joined before) start ≡ Ok database)
-      × (((database.lock ≡ free) × ((who : List ℕ) × (list_any (λ b. b == 124) who ≡ false) × IsLeft Mysql (update_calls Mysql m (record stamp { who = who }) g database) database before after))
-      ⊎ ((mark : Mark database.lock) × (x : Set Key) × (marked_set mark.name database.rows g.sets ≡ Some x)
+      × (((database.lock.locked ≡ false) × ((who : List ℕ) × (list_any (λ b. b == 124) who ≡ false) × IsLeft Mysql (update_calls Mysql m (record stamp { who = who }) g database) database before after))
+      ⊎ ((database.lock.locked ≡ true) × (mark : Mark database.lock) × (x : Set Key) × (marked_set mark.name database.rows g.sets ≡ Some x)
       × IsLeft Mysql (repair_calls Mysql mark.who x.identity (take (standing mark.is_back (marks_last (by_of database.lock) (last_or None (joined before))) (suc mark.k)) (statements_of Mysql m x.changes)) database) database before after)
       ⊎ ((database.lock.locked ≡ true) × (Mark database.lock → ⊥) × IsLeft Mysql (release_calls database) database before after))
 
@@ -85,11 +84,11 @@ module _ {Key : Type 0} (m : Meaning Key) (stamp : Stamp) where
   AreMended g start from [] to = from ≡ to
   AreMended g start from (next ∷ more) to = MendsAt g start from next × AreMended g start next more to
 
--- A steady update in MySQL each of whose pending changesets fits: stopped any number of times, each time taken back or released, and then run to its end, it leaves what it would have left.
+-- A steady update in MySQL each of whose pending changesets fits: stopped any number of times, each time taken back or released, and then run to its end, it leaves what it would have left, with a free lock, or the database as it was before the first where nothing was called.
 abbrev pub UpdateMends : {Key : Type 0} → Meaning Key → Type 0
 UpdateMends {Key} m = PartsBack m.is_for m.gives m.fresh m.inverse → (stamp : Stamp) (g : Changelog Key) (start database : Database) (stops : List Journal) (last : Journal)
-    → IsSound Mysql start.users → start.lock ≡ free → AreRead Mysql m g.sets → list_all has_own_sum g.sets ≡ true → are_twins g.sets ≡ false
+    → IsSound Mysql start.users → start.lock.locked ≡ false → AreRead Mysql m g.sets → list_all has_own_sum g.sets ≡ true → are_twins g.sets ≡ false
     → IsSteady Mysql m stamp g (contents_of start) → all_fit m stamp g.sets g.sets (contents_of start) ≡ true
-    → AreMended m stamp g start [] stops last → all_done Mysql (joined last) start ≡ Ok database → database.lock ≡ free
-    → SameDatabase (left_by Mysql (update_calls Mysql m stamp g database) database) (at_rest start (updated Mysql m stamp.reading g (contents_of start)).contents)
+    → AreMended m stamp g start [] stops last → all_done Mysql (joined last) start ≡ Ok database → database.lock.locked ≡ false
+    → IsAtRest start (updated Mysql m stamp.reading g (contents_of start)).contents (left_by Mysql (update_calls Mysql m stamp g database) database)
     × ((updated Mysql m stamp.reading g (contents_of database)).stop ≡ (updated Mysql m stamp.reading g (contents_of start)).stop)

@@ -116,10 +116,10 @@ pub record RunsFirst {Key : Type 0} (d : Dialect) (m : Meaning Key) (x : Set Key
   pub inverse : inverses d m x.changes ≡ Some undoing
   pub fresh : all_fresh d m x.changes c.users ≡ true
 
--- Wherever an update is stopped with the lock held, whole turns stand and, where the lock has the mark of a changeset that runs for the first time, a part of its statements.
+-- Wherever an update that began where no lock was held is stopped with the lock held, whole turns stand and, where the lock has the mark of a changeset that runs for the first time, a part of its statements.
 abbrev pub UpdateRepairs : {Key : Type 0} → Meaning Key → Type 0
 UpdateRepairs {Key} m = PartsBack m.is_for m.gives m.fresh m.inverse → (d : Dialect) (stamp : Stamp) (g : Changelog Key) (database now : Database) (front rest : Journal)
-    → IsSound d database.users → AreRead d m g.sets → database.lock ≡ free → none_gives_way d m stamp g.sets (contents_of database) ≡ true
+    → IsSound d database.users → AreRead d m g.sets → database.lock.locked ≡ false → none_gives_way d m stamp g.sets (contents_of database) ≡ true
     → (all_called d (update_calls d m stamp g database) (session_on database)).entries ≡ front ++ rest → all_done d (joined front) database ≡ Ok now → now.lock.locked ≡ true
     → (turns : List (Set Key)) × (more : List (Set Key)) × (g.sets ≡ turns ++ more) × ((all_settled d m stamp.reading turns (contents_of database)).stop ≡ None)
     × (IsBetween stamp (all_settled d m stamp.reading turns (contents_of database)).contents now
