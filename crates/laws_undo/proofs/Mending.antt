@@ -35,7 +35,6 @@ use Rattle.lq_seen.specs.View.{any_meaning, view_log}
 use Rattle.lq_statement.specs.Laws.{StatementsReadBack}
 use Rattle.lq_store.specs.Journal.{Entry}
 use Rattle.lq_track.specs.Database.{Database}
-use Rattle.lq_track.specs.Lock.{free}
 use Rattle.lq_turns.proofs.Journal.{same_ok}
 use Rattle.lq_turns.specs.Deed.{all_done}
 use Rattle.lq_turns.specs.Effects.{statements_of}
@@ -81,7 +80,7 @@ only_passes p (y ∷ []) x all is = ap p (sym (some_same is)) ∙ and_left (p y)
 only_passes p (y ∷ z ∷ xs) x all is = none_some is
 
 module _ (o : Options) (g : Changelog) (mysql : o.dialect ≡ Mysql) (read : AreRead Mysql any_meaning (sets_in o g)) (tells : LastTextTells) (read_back : StatementsReadBack) (stamp : Stamp) (begin : List Entry) (start : Database)
-    (unlocked : start.lock ≡ free) (time : IsTime stamp.reading) (texts : All HasTexts (sets_in o g)) where
+    (unlocked : start.lock.locked ≡ false) (time : IsTime stamp.reading) (texts : All HasTexts (sets_in o g)) where
   abbrev last_on : Journal → Option (List ℕ)
   last_on written = last_text (journal_on o g stamp begin start written)
 
@@ -154,7 +153,7 @@ module _ (o : Options) (g : Changelog) (mysql : o.dialect ≡ Mysql) (read : Are
         ∙ (ap (λ (b : Bool). repair_calls o.dialect mark.who x.identity (take (standing mark.is_back b (suc mark.k)) (made_in o x)) database) set
         ∙ ap (λ (d : Dialect). repair_calls d mark.who x.identity (take (standing mark.is_back (marks_last (by_of database.lock) (last_or None (joined from))) (suc mark.k)) (statements_of d any_meaning x.changes)) database) mysql) in (
           joins_read Mysql read_back (undone_on from database) database from to fit left are,
-          inl (database, led, inr (inl (mark, x, is, subst (λ (calls : List Call). IsLeft Mysql calls database from to) calls left))),
+          inl (database, led, inr (inl (held, mark, x, is, subst (λ (calls : List Call). IsLeft Mysql calls database from to) calls left))),
         )
 
     stopped : StopsAt o g stamp begin start database from to → Stopped

@@ -63,13 +63,13 @@ module _ (d : Dialect) where
   last_in_is o (deeds ∷ entries) = last_in_is (last_or o (entry_texts d deeds)) entries
 
   -- what took the lock wrote something, so that what stands before it is not asked
-  asks_none : (deeds : List Deed) (o : Option Text) (start now : Database) → all_done d deeds start ≡ Ok now → start.lock ≡ free → now.lock.locked ≡ true
+  asks_none : (deeds : List Deed) (o : Option Text) (start now : Database) → all_done d deeds start ≡ Ok now → start.lock.locked ≡ false → now.lock.locked ≡ true
       → last_or o (map (deed_text d) deeds) ≡ last_or None (map (deed_text d) deeds)
-  asks_none [] o start now led unlocked held = false_true (sym (ap (λ (l : Lock). l.locked) unlocked) ∙ ap (λ (e : Database). e.lock.locked) (same_ok d led) ∙ held)
+  asks_none [] o start now led unlocked held = false_true (sym unlocked ∙ ap (λ (e : Database). e.lock.locked) (same_ok d led) ∙ held)
   asks_none (deed ∷ deeds) o start now led unlocked held = refl
 
   module _ (tells : LastTextTells) (read : StatementsReadBack) (before : List Entry) (start : Database) where
-    pub told : (written : Journal) (now : Database) → start.lock ≡ free → now.lock.locked ≡ true → all_done d (joined written) start ≡ Ok now → AreReadBack d (joined written)
+    pub told : (written : Journal) (now : Database) → start.lock.locked ≡ false → now.lock.locked ≡ true → all_done d (joined written) start ≡ Ok now → AreReadBack d (joined written)
         → is_mark_text d (by_of now.lock) (last_text (before ++ entries_of d written)) ≡ marks_last (by_of now.lock) (last_or None (joined written))
     told written now unlocked held led all = ap (is_mark_text d (by_of now.lock)) same ∙ tells d (by_of now.lock) start now written led all (mark_read read d (by_of now.lock)) where
       same : last_text (before ++ entries_of d written) ≡ last_in None (map (map (text_by d)) written)

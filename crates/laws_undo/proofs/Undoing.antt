@@ -48,7 +48,6 @@ use Rattle.lq_stand.specs.Stays.{IsClean}
 use Rattle.lq_statement.specs.Laws.{StatementsReadBack}
 use Rattle.lq_store.specs.Journal.{Entry}
 use Rattle.lq_track.specs.Database.{Database, has_twin_rows}
-use Rattle.lq_track.specs.Lock.{free}
 use Rattle.lq_turns.proofs.Stays.{all_sound}
 use Rattle.lq_turns.specs.Contents.{Contents, contents_of}
 use Rattle.lq_turns.specs.Effects.{inverses, statements_of}
@@ -231,7 +230,7 @@ module _ (o : Options) (g : Changelog) (at : ℕ) (who : List ℕ) (x : Set AnyC
   stands last next held (inl whole) = false_true (sym (ap (λ (l : Lock). l.locked) whole.lock) ∙ held)
   stands last next held (inr partly) = partly
 
-  module _ (tells : LastTextTells) (read_back : StatementsReadBack) (before : List Entry) (start : Database) (unlocked : start.lock ≡ free) where
+  module _ (tells : LastTextTells) (read_back : StatementsReadBack) (before : List Entry) (start : Database) (unlocked : start.lock.locked ≡ false) where
     -- a part stands, with what stops have written since the start
     record Part (entries : List Entry) (database : Database) : Type 0 where
       since : Since o.dialect before start entries database

@@ -20,14 +20,13 @@ use Rattle.lq_run.specs.Stands.{entries_of}
 use Rattle.lq_seen.specs.View.{any_meaning, view_log}
 use Rattle.lq_stand.specs.Stays.{IsClean}
 use Rattle.lq_store.specs.Journal.{Entry, database as catalogue_by}
-use Rattle.lq_track.specs.Database.{Database, SameDatabase}
-use Rattle.lq_track.specs.Lock.{free}
+use Rattle.lq_track.specs.Database.{Database}
 use Rattle.lq_turns.specs.Again.{are_twins, has_own_sum}
 use Rattle.lq_turns.specs.Contents.{Contents, contents_of}
 use Rattle.lq_turns.specs.Deed.{all_done}
 use Rattle.lq_turns.specs.Faults.{faults}
 use Rattle.lq_turns.specs.Held.{StandsFor}
-use Rattle.lq_turns.specs.Laws.{AreRead, at_rest}
+use Rattle.lq_turns.specs.Laws.{AreRead, IsAtRest}
 use Rattle.lq_turns.specs.Script.{release_calls, turn_by, update_calls}
 use Rattle.lq_turns.specs.Session.{left_by}
 use Rattle.lq_turns.specs.Set.{Changelog as Log, Set}
@@ -59,10 +58,10 @@ pub record StopsHeld (d : Dialect) (calls : List Call) (database : Database) (be
 abbrev pub turns_on : Dialect → Stamp → List (Set AnyChange) → Database → Settled
 turns_on d stamp turns start = all_settled d any_meaning stamp.reading turns (contents_of start)
 
--- An update, begun with a free lock, was stopped within the statements of a changeset that runs there for the first time; the changesets before it are done.
+-- An update, begun where no lock was held, was stopped within the statements of a changeset that runs there for the first time; the changesets before it are done.
 pub record UpdateCut (d : Dialect) (stamp : Stamp) (log : Log AnyChange) (start : Database) (before after : List Entry) : Type 0 where
   pub found : Found d before start
-  pub unlocked : start.lock ≡ free
+  pub unlocked : start.lock.locked ≡ false
   pub who : list_any (λ b. b == 124) stamp.who ≡ false
   pub time : IsTime stamp.reading
   pub read : AreRead d any_meaning log.sets
@@ -113,10 +112,10 @@ module _ (o : Options) (g : Changelog) (stamp : Stamp) (begin : List Entry) (sta
   abbrev pub journal_on : Journal → List Entry
   journal_on written = begin ++ entries_of Mysql written
 
-  -- what is run there is stopped: the update where the lock is free, undo-unrecorded where it has the mark of a changeset's statement, release-locks where it is held without one
+  -- what is run there is stopped: the update where no lock is held, undo-unrecorded where it has the mark of a changeset's statement, release-locks where it is held without one
   abbrev pub StopsAt : Database → Journal → Journal → Type 0
   StopsAt database before after =
-      ((database.lock ≡ free) × ((who : List ℕ) × (list_any (λ b. b == 124) who ≡ false) × IsLeft Mysql (update_calls Mysql any_meaning (record stamp { who = who }) (view_log o g) database) database before after))
+      ((database.lock.locked ≡ false) × ((who : List ℕ) × (list_any (λ b. b == 124) who ≡ false) × IsLeft Mysql (update_calls Mysql any_meaning (record stamp { who = who }) (view_log o g) database) database before after))
       ⊎ ((database.lock.locked ≡ true) × Mark database.lock × IsLeft Mysql (calls_on o g (journal_on before) database) database before after)
       ⊎ ((database.lock.locked ≡ true) × (Mark database.lock → ⊥) × IsLeft Mysql (release_calls database) database before after)
 
@@ -124,11 +123,11 @@ module _ (o : Options) (g : Changelog) (stamp : Stamp) (begin : List Entry) (sta
   AreStopped from [] to = from ≡ to
   AreStopped from (next ∷ more) to = ((database : Database) × (all_done Mysql (joined from) start ≡ Ok database) × Found Mysql (journal_on from) database × StopsAt database from next) × AreStopped next more to
 
--- A steady update in MySQL each of whose pending changesets fits: stopped any number of times, each time followed by undo-unrecorded or release-locks, and then run to its end, it leaves what it would have left.
+-- A steady update in MySQL each of whose pending changesets fits: stopped any number of times, each time followed by undo-unrecorded or release-locks, and then run to its end, it leaves what it would have left, with a free lock, or the database as it was before the first where nothing was called.
 abbrev pub UndoMends : Type 0
 UndoMends = (o : Options) (g : Changelog) (stamp : Stamp) (begin : List Entry) (start database : Database) (stops : List Journal) (last : Journal) → o.dialect ≡ Mysql
-    → IsSound Mysql start.users → start.lock ≡ free → IsTime stamp.reading → All HasTexts (sets_in o g) → AreRead Mysql any_meaning (sets_in o g) → list_all has_own_sum (sets_in o g) ≡ true → are_twins (sets_in o g) ≡ false
+    → IsSound Mysql start.users → start.lock.locked ≡ false → IsTime stamp.reading → All HasTexts (sets_in o g) → AreRead Mysql any_meaning (sets_in o g) → list_all has_own_sum (sets_in o g) ≡ true → are_twins (sets_in o g) ≡ false
     → IsSteady Mysql any_meaning stamp (view_log o g) (contents_of start) → all_fit any_meaning stamp (sets_in o g) (sets_in o g) (contents_of start) ≡ true
-    → AreStopped o g stamp begin start [] stops last → all_done Mysql (joined last) start ≡ Ok database → database.lock ≡ free
-    → SameDatabase (left_by Mysql (update_calls Mysql any_meaning stamp (view_log o g) database) database) (at_rest start (updated Mysql any_meaning stamp.reading (view_log o g) (contents_of start)).contents)
+    → AreStopped o g stamp begin start [] stops last → all_done Mysql (joined last) start ≡ Ok database → database.lock.locked ≡ false
+    → IsAtRest start (updated Mysql any_meaning stamp.reading (view_log o g) (contents_of start)).contents (left_by Mysql (update_calls Mysql any_meaning stamp (view_log o g) database) database)
     × ((updated Mysql any_meaning stamp.reading (view_log o g) (contents_of database)).stop ≡ (updated Mysql any_meaning stamp.reading (view_log o g) (contents_of start)).stop)
