@@ -143,7 +143,8 @@ fn one_of(
     }
 }
 
-/// The place of the only row that the test takes, where the test asks for the text that it begins with.
+/// The place of the only row that the test takes, where the test asks for the text that the row
+/// begins with.
 pub fn only_taken(
     parts: &mut Parts,
     alloc: Global,

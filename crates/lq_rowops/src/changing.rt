@@ -25,8 +25,8 @@ pub struct Changes {
     pub count: usize,
     /// A NOT NULL column of a new row holds null.
     pub has_null: bool,
-    /// A new row has no parent by a foreign key of which a column is set, and that does not aim at a
-    /// set column.
+    /// A new row has no parent by a foreign key of which a column is set, and that does not aim at
+    /// a set column.
     pub is_stray: bool,
 }
 
@@ -173,8 +173,8 @@ fn change_one(
     })
 }
 
-/// Puts the new rows in place of those that the test takes, or changes nothing. Where the test tells
-/// a single row by its first value, no other row is looked at.
+/// Puts the new rows in place of those that the test takes, or changes nothing. Where the test
+/// tells a single row by its first value, that row alone is replaced.
 pub fn change(
     parts: &mut Parts,
     alloc: Global,
