@@ -4,6 +4,7 @@ use Rattle.std.proofs.lemmas.List.Elements.{All-head, All-tail}
 use Rattle.std.specs.List.{All, last_or, list_all}
 use Rattle.std.specs.Option.{option_map, option_or}
 use Rattle.std.specs.Prelude.{Bool, List, None, Ok, Option, Result, Some, [], false, if◌then◌else◌, length, not, option_and_then, true, ℕ, ◌&&◌, ◌++◌, ◌||◌, ◌∷◌, ◌≡◌, ◌⊎◌}
+use Rattle.laws_repair.proofs.Unlocked.{entries_as, led_held, left_as, locked_as}
 use Rattle.laws_undo.specs.Undone.{UndoMends}
 use Rattle.lq_base.specs.declared.command.Command.{Command}
 use Rattle.lq_base.specs.declared.command.Command.TheVariants as command
@@ -48,7 +49,7 @@ use Rattle.lq_store.specs.Journal.{Entry}
 use Rattle.lq_tell.specs.declared.done.Done.{Done}
 use Rattle.lq_tell.specs.declared.status.Status.{Status}
 use Rattle.lq_tell.specs.declared.status.Status.TheVariants as status
-use Rattle.lq_track.specs.Database.{Database, SameDatabase}
+use Rattle.lq_track.specs.Database.{Database}
 use Rattle.lq_track.specs.Lock.{free}
 use Rattle.lq_track.specs.Log.{identity_of}
 use Rattle.lq_turns.proofs.Known.{faultless_are_apart}
@@ -57,12 +58,12 @@ use Rattle.lq_turns.proofs.Returns.{rollback_resumes}
 use Rattle.lq_turns.proofs.Rolled.{rollback_leaves}
 use Rattle.lq_turns.proofs.Stands.{rollback_stops, sync_stops, update_stops}
 use Rattle.lq_turns.proofs.Trails.{update_resumes}
-use Rattle.lq_turns.proofs.Updates.{free_before, freed, update_leaves}
+use Rattle.lq_turns.proofs.Updates.{update_leaves}
 use Rattle.lq_turns.specs.Again.{are_twins, has_own_sum}
 use Rattle.lq_turns.specs.Contents.{Contents, contents_of}
 use Rattle.lq_turns.specs.Deed.{all_done}
 use Rattle.lq_turns.specs.Faults.{faults}
-use Rattle.lq_turns.specs.Laws.{AreKnown, AreRead, IsAtRest, at_rest, rollback_calls}
+use Rattle.lq_turns.specs.Laws.{AreKnown, AreRead, IsAtRest, rollback_calls}
 use Rattle.lq_turns.specs.Ran.{RanSince, Run as RunOf, are_reversible}
 use Rattle.lq_turns.specs.Rollback.{rollback_of, rows_kept, rows_undone, undo_turns}
 use Rattle.lq_turns.specs.Script.{calls_unless, clearing, closing, last_row, release_calls, tag_of, update_calls}
@@ -85,7 +86,7 @@ use Rattle.lq_turns.specs.declared.stop.Stop.{Stop}
 use Rattle.lq_turns.specs.declared.turn.Turn.{Turn}
 use Rattle.lq_top.proofs.InPart.{command_on_file, counted_read, loaded_command, runs_command, says_command}
 use Rattle.lq_top.proofs.Unchanged.{holds_it}
-use Rattle.lq_top.proofs.Unlocked.{back_as, entries_as, led_held, left_as, locked_as, sync_as}
+use Rattle.lq_top.proofs.Unlocked.{back_as, sync_as}
 use Rattle.lq_top.proofs.Written.{Does, IsWritten, failed_unfinished, false_true, was_over}
 use Rattle.lq_top.specs.Asks.{Asks, Files}
 use Rattle.lq_top.specs.Bytes.{Becomes, IsLeftOn, Opens, most_bytes}
@@ -93,7 +94,7 @@ use Rattle.lq_entries.specs.Log.{entries_in}
 use Rattle.lq_top.specs.Headline.{HoldsAtRest}
 use Rattle.lq_top.specs.Jobs.{DoesLine, IsLoaded, command_by, is_on_file, job_script}
 use Rattle.lq_top.specs.Resumed.{BackHeld, EndsSo, LeavesMarked, RehearsalHeld, RollbackResumes, StandsHeld, UpdateHeld, UpdateResumes, turns_to, without_stop}
-use Rattle.lq_top.specs.Run.{EndsBy, HoldsSame, IsOutside, Runs, given_by, is_over}
+use Rattle.lq_top.specs.Run.{EndsBy, IsOutside, Runs, given_by, is_over}
 use Rattle.lq_top.specs.Says.{Said, SaysJob}
 use Rattle.lq_top.specs.TakenBack.{UpdateMends}
 
@@ -209,19 +210,13 @@ module _ (job : Job) (given : Given) (before : Option (List ℕ)) (done : Result
 
 -- a law at mysql, of an update in that dialect
 mended_at : (part : Given) (start database : Database) → part.options.dialect ≡ Mysql
-    → SameDatabase (left_by Mysql (update_calls Mysql any_meaning part.stamp (log_in part) database) database) (at_rest start (updated Mysql any_meaning part.stamp.reading (log_in part) (contents_of start)).contents)
+    → IsAtRest start (updated Mysql any_meaning part.stamp.reading (log_in part) (contents_of start)).contents (left_by Mysql (update_calls Mysql any_meaning part.stamp (log_in part) database) database)
     × ((updated Mysql any_meaning part.stamp.reading (log_in part) (contents_of database)).stop ≡ (updated Mysql any_meaning part.stamp.reading (log_in part) (contents_of start)).stop)
     → IsAtRest start (without_stop part start).contents (left_by part.options.dialect (update_script part database) database)
     × ((updated part.options.dialect any_meaning part.stamp.reading (log_in part) (contents_of database)).stop ≡ (without_stop part start).stop)
 mended_at part start database is law =
     subst (λ (d : Dialect). IsAtRest start (updated d any_meaning part.stamp.reading (log_in part) (contents_of start)).contents (left_by d (update_calls d any_meaning part.stamp (log_in part) database) database)
-    × ((updated d any_meaning part.stamp.reading (log_in part) (contents_of database)).stop ≡ (updated d any_meaning part.stamp.reading (log_in part) (contents_of start)).stop)) (sym is)
-    (freed start (left_by Mysql (update_calls Mysql any_meaning part.stamp (log_in part) database) database) _ law.0, law.1)
-
--- what rests, behind a database whose lock was free
-free_again : (d : Dialect) (told : Option (List ℕ)) (start : Database) (contents : Contents) → start.lock ≡ free → HoldsAtRest d told start contents → HoldsSame d told (at_rest start contents)
-free_again d told start contents unlocked is =
-    (is.0, is.1, free_before start is.0 contents unlocked is.2)
+    × ((updated d any_meaning part.stamp.reading (log_in part) (contents_of database)).stop ≡ (updated d any_meaning part.stamp.reading (log_in part) (contents_of start)).stop)) (sym is) law
 
 module _ {words : List (List ℕ)} {files : Files} (asks : Asks words files) (stamp : Stamp) (before : Option (List ℕ)) (done : Result Done Status) (s : Status) (after : Option (List ℕ)) where
   abbrev given : Given
@@ -269,11 +264,10 @@ module _ {words : List (List ℕ)} {files : Files} (asks : Asks words files) (st
   has_mended mends out_before out_after by does runs said = λ database opens was over.
       let part = was.part in
       let steady = subst (λ (d : Dialect). IsSteady d any_meaning part.stamp (log_in part) (contents_of was.start)) (sym was.is_mysql) was.steady in
-      let it = gone_on out_before out_after by does runs said part was.start database opens was.is_update (ap (λ (lock : Lock). lock.locked) was.rests) steady over
+      gone_on out_before out_after by does runs said part was.start database opens was.is_update was.unheld steady over
       (λ read short own apart. mended_at part was.start database was.is_mysql
       (mends part.options part.changelog part.stamp was.begin was.start database was.stops was.last was.is_mysql was.sound was.unlocked was.time (view_has part.options part.changelog short)
-      (subst (λ (d : Dialect). AreRead d any_meaning (sets_in part)) was.is_mysql read) own apart was.steady was.fits was.stopped was.led was.rests)) in
-      (free_again part.options.dialect after was.start (without_stop part was.start).contents was.unlocked it.0, it.1)
+      (subst (λ (d : Dialect). AreRead d any_meaning (sets_in part)) was.is_mysql read) own apart was.steady was.fits was.stopped was.led was.unheld))
 
   pub has_gone_on_back : Runs asks stamp before s after → RollbackResumes asks stamp before s after
   has_gone_on_back runs = λ database opens was over.

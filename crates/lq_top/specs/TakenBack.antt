@@ -1,6 +1,5 @@
 -- What undo-unrecorded takes back where an update was stopped, and an update that comes to its end between such stops.
-use Rattle.std.specs.List.{list_all}
-use Rattle.std.specs.Prelude.{List, None, Ok, Option, Some, [], true, ℕ, ◌≡◌}
+use Rattle.std.specs.Prelude.{List, None, Ok, Option, Some, [], false, true, ℕ, ◌≡◌}
 use Rattle.laws_repair.specs.Mended.{all_fit}
 use Rattle.laws_repair.specs.Repair.{IsWhole}
 use Rattle.laws_undo.specs.Undone.{AreStopped, AreUndone, Gives, UpdateCut, turns_on}
@@ -18,22 +17,20 @@ use Rattle.lq_seen.specs.View.{any_meaning}
 use Rattle.lq_store.specs.Journal.{Entry}
 use Rattle.lq_tell.specs.declared.status.Status.{Status}
 use Rattle.lq_track.specs.Database.{Database}
-use Rattle.lq_track.specs.Lock.{free}
 use Rattle.lq_turns.specs.Contents.{Contents, contents_of}
 use Rattle.lq_turns.specs.Deed.{all_done}
 use Rattle.lq_turns.specs.Faults.{faults}
-use Rattle.lq_turns.specs.Laws.{at_rest}
 use Rattle.lq_turns.specs.Set.{Changelog}
 use Rattle.lq_turns.specs.Stops.{IsSteady, Journal, joined}
 use Rattle.lq_turns.specs.declared.stamp.Stamp.{Stamp}
 use Rattle.lq_top.specs.Asks.{Asks, Files}
 use Rattle.lq_top.specs.Bytes.{Holds, OnFile, most_bytes}
-use Rattle.lq_top.specs.Headline.{IsTaken, log_of}
+use Rattle.lq_top.specs.Headline.{HoldsAtRest, IsTaken, log_of}
 use Rattle.lq_top.specs.Jobs.{command_by}
 use Rattle.lq_top.specs.Resumed.{EndsSo, without_stop}
-use Rattle.lq_top.specs.Run.{HoldsSame, given_by, is_over}
+use Rattle.lq_top.specs.Run.{given_by, is_over}
 
--- The file's journal is the last of some with held locks. The first was left by an update that was stopped within the statements of a changeset which ran there for the first time; each other one by undo-unrecorded, with these files, on the one before.
+-- The file's journal is the last of some with held locks. The first was left by an update that began where no lock was held and was stopped within the statements of a changeset which ran there for the first time; each other one by undo-unrecorded, with these files, on the one before.
 pub record PartStopped {words : List (List ℕ)} {files : Files} (asks : Asks words files) (told : Option (List ℕ)) (database : Database) : Type 0 where
   pub is_undo : asks.line.job ≡ UndoUnrecorded
   pub stamp : Stamp
@@ -61,7 +58,7 @@ module _ {words : List (List ℕ)} {files : Files} (asks : Asks words files) (to
   abbrev pub TakesPartBack : Type 0
   TakesPartBack = OnFile asks.line.options.dialect told (λ database. (was : PartStopped asks told database) → HasTakenBack database was)
 
--- A steady update in mysql, each of whose pending changesets undo-unrecorded may take back, that was stopped any number of times, under any names; behind each stop that left the lock held came undo-unrecorded, where it had a mark, or release-locks. The first began on this database, behind these entries.
+-- A steady update in mysql, each of whose pending changesets undo-unrecorded may take back, that was stopped any number of times, under any names; behind each stop that left the lock held came undo-unrecorded, where it had a mark, or release-locks. The first began on this database, behind these entries, where no lock was held.
 pub record UpdateMended {words : List (List ℕ)} {files : Files} (asks : Asks words files) (stamp : Stamp) (database : Database) : Type 0 where
   pub part : Given
   pub is_update : command_by asks.line.job (given_by asks stamp) database ≡ Some (command.Update, part)
@@ -70,16 +67,16 @@ pub record UpdateMended {words : List (List ℕ)} {files : Files} (asks : Asks w
   pub begin : List Entry
   pub start : Database
   pub sound : IsSound Mysql start.users
-  pub unlocked : start.lock ≡ free
+  pub unlocked : start.lock.locked ≡ false
   pub steady : IsSteady Mysql any_meaning part.stamp (log_in part) (contents_of start)
   pub fits : all_fit any_meaning part.stamp (sets_in part) (sets_in part) (contents_of start) ≡ true
   pub stops : List Journal
   pub last : Journal
   pub stopped : AreStopped part.options part.changelog part.stamp begin start [] stops last
   pub led : all_done Mysql (joined last) start ≡ Ok database
-  pub rests : database.lock ≡ free
+  pub unheld : database.lock.locked ≡ false
 
--- where it comes to its end the file holds what it would have left without a stop, with a free lock, and it ends as it would have
+-- where it comes to its end the file holds what it would have left without a stop, its lock free, or the first database where nothing was called, and it ends as it would have
 abbrev pub UpdateMends : {words : List (List ℕ)} {files : Files} → Asks words files → Stamp → Option (List ℕ) → Status → Option (List ℕ) → Type 0
 UpdateMends asks stamp before s after = OnFile asks.line.options.dialect before (λ database. (was : UpdateMended asks stamp database) → is_over s ≡ true
-    → HoldsSame was.part.options.dialect after (at_rest was.start (without_stop was.part was.start).contents) × EndsSo (status_by (without_stop was.part was.start).stop) s)
+    → HoldsAtRest was.part.options.dialect after was.start (without_stop was.part was.start).contents × EndsSo (status_by (without_stop was.part was.start).stop) s)
