@@ -4,9 +4,8 @@ use Rattle.std.proofs.lemmas.List.{append-nil}
 use Rattle.lq_base.specs.declared.dialect.Dialect.{Dialect}
 use Rattle.lq_model.specs.Catalogue.{Catalogue}
 use Rattle.lq_codec.specs.Codec.{if_all}
-use Rattle.lq_codec.specs.Database.{bytes_of, can_be_written, catalogue_codec, catalogue_of}
-use Rattle.lq_codec.specs.Sound.{is_sound}
-use Rattle.lq_codec.specs.State.{if_sound, state_of}
+use Rattle.lq_codec.specs.Tables.{bytes_of, can_be_written, catalogue_codec, catalogue_of}
+use Rattle.lq_codec.specs.State.{is_sound, if_sound, state_of}
 use Rattle.lq_codec.specs.Words.{count, front_number, number, number_bytes}
 use Rattle.lq_codec.proofs.Laws.{some_is}
 use Rattle.laws_codec.specs.Written.{BytesAreRead, BytesAreWritten, NothingIsZeros, SoundnessIsTested, StatesAreRead, StatesAreSound}

@@ -5,19 +5,17 @@ use Rattle.std.specs.List.{list_all}
 use Rattle.std.specs.Map.{lookup}
 use Rattle.lq_base.specs.Name.{is_named, name_cmp}
 use Rattle.lq_base.specs.declared.name.Name.{Name}
-use Rattle.lq_model.specs.Names.{is_in, repeats, times}
+use Rattle.lq_model.specs.Catalogue.{is_in, repeats, times, Catalogue, Table, constraint_names, index_names}
 use Rattle.lq_base.specs.declared.dialect.Dialect.{Dialect}
 use Rattle.lq_base.specs.declared.dialect.Dialect.TheVariants.{Mysql, Postgresql}
-use Rattle.lq_model.specs.Catalogue.{Catalogue, Table}
 use Rattle.lq_model.specs.NameSpaces.{AreApart, AreApartWithin, all_foreign_names, object_names, shared_names}
 use Rattle.lq_model.specs.Sound.{IsSound, IsSoundTable}
-use Rattle.lq_model.specs.TableNames.{constraint_names, index_names}
 use Rattle.lq_model.proofs.CreateKeeps.{once_if}
 use Rattle.lq_model.proofs.Kept.{not_so_true}
 use Rattle.lq_model.proofs.Lists.{and_left, and_right, and_true, named_itself, same_name}
 use Rattle.lq_model.proofs.Maps.{below_gone, sorted_entries, sorted_keys}
 use Rattle.std.proofs.lemmas.Map.Entries.{lookup_head, lookup_tail}
-use Rattle.lq_codec.specs.Sound.{are_apart, are_in_order, are_lists, is_key_well, has_sound_columns, has_sound_lists, has_sound_objects, has_sound_rows, is_sound, is_sound_table, own_names}
+use Rattle.lq_codec.specs.State.{are_apart, are_in_order, are_lists, is_key_well, has_sound_columns, has_sound_lists, has_sound_objects, has_sound_rows, is_sound, is_sound_table, own_names}
 
 -- a name that stands in a list stands there once at least
 some_time : (n : Name) (ns : List Name) → is_in n ns ≡ true → 1 ≤ times n ns

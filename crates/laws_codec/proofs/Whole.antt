@@ -25,7 +25,7 @@ use Rattle.lq_model.specs.declared.test.Operand.TheVariants as operand
 use Rattle.lq_model.specs.declared.test.Test.{Compare, IsNull, NotNull, Test}
 use Rattle.lq_codec.specs.Codec.{Codec, IsCodec, after, always, both, counted, mapped, ok_some, one, only_if, optional, variant}
 use Rattle.lq_codec.specs.Words.{any_byte, below, byte, count, digits, is_below, name, number, small_number, text, truth, width}
-use Rattle.lq_codec.specs.Database as dd
+use Rattle.lq_codec.specs.Tables as dd
 use Rattle.lq_codec.specs.Queries as dq
 use Rattle.lq_codec.specs.Tables as dt
 use Rattle.lq_codec.specs.Values as dv

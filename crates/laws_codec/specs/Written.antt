@@ -1,12 +1,11 @@
 -- What holds of the bytes of databases.
 use Rattle.std.specs.Prelude.{List, None, Some, replicate, true, ℕ, ◌↔◌, ◌≡◌}
 use Rattle.lq_base.specs.declared.dialect.Dialect.{Dialect}
+use Rattle.lq_codec.specs.Codec.{IsCodec}
+use Rattle.lq_codec.specs.State.{is_sound, state_of}
+use Rattle.lq_codec.specs.Tables.{bytes_of, can_be_written, catalogue_codec, catalogue_of}
 use Rattle.lq_model.specs.Catalogue.{Catalogue, no_objects}
 use Rattle.lq_model.specs.Sound.{IsSound}
-use Rattle.lq_codec.specs.Codec.{IsCodec}
-use Rattle.lq_codec.specs.Database.{bytes_of, can_be_written, catalogue_codec, catalogue_of}
-use Rattle.lq_codec.specs.Sound.{is_sound}
-use Rattle.lq_codec.specs.State.{state_of}
 
 abbrev pub BytesAreRead : Type 0
 BytesAreRead = (c : Catalogue) → can_be_written c ≡ true → catalogue_of (bytes_of c) ≡ Some c

@@ -20,27 +20,23 @@ use Rattle.lq_keys.specs.AddForeignKey.{add_foreign_key}
 use Rattle.lq_primary_keys.specs.AddPrimaryKey.{add_primary_key}
 use Rattle.lq_uniques.specs.AddUnique.{add_unique}
 use Rattle.lq_keys.specs.CreateIndex.{create_index}
-use Rattle.lq_keys.specs.IndexColumn.{index_column}
-use Rattle.lq_keys.specs.OnDelete.{an_on_delete}
-use Rattle.lq_tree.specs.Given.{a_whole}
+use Rattle.lq_keys.specs.OnDelete.{index_column, an_on_delete}
+use Rattle.lq_tree.specs.Given.{a_whole, some_names}
 use Rattle.lq_tree.specs.Items.{a_column, column_in, is_empty, only, some_items_in}
 use Rattle.lq_tree.specs.Keys.{at_optional}
 use Rattle.lq_tree.specs.Look.{whole_of}
-use Rattle.lq_tree.specs.Names.{some_names}
 use Rattle.lq_tree.specs.declared.node.Node.{Node, Text as TextNode, Whole as WholeNode, the_lemmas}
 use Rattle.lq_views.specs.CreateSequence.{an_increment, create_sequence, is_not_zero}
 use Rattle.lq_views.specs.CreateView.{create_view}
 use Rattle.lq_views.specs.QueryText.{a_query}
-use Rattle.lq_generate.specs.Added.{foreign_rows, foreign_tree, if_cascade, index_column_rows, index_column_tree, index_rows, index_tree, key_rows, key_tree, listed, sequence_rows, sequence_tree, unique_rows, unique_tree, view_rows, view_tree}
+use Rattle.lq_generate.specs.Created.{foreign_rows, foreign_tree, if_cascade, index_column_rows, index_column_tree, index_rows, index_tree, key_rows, key_tree, listed, sequence_rows, sequence_tree, unique_rows, unique_tree, view_rows, view_tree, named_in}
 use Rattle.lq_keys.specs.declared.add_foreign_key.AddForeignKeyConstraint.{AddForeignKeyConstraint}
 use Rattle.lq_keys.specs.declared.create_index.CreateIndex.{CreateIndex}
 use Rattle.lq_keys.specs.declared.index_column.IndexColumn.{IndexColumn}
 use Rattle.lq_primary_keys.specs.declared.add_primary_key.AddPrimaryKey.{AddPrimaryKey}
 use Rattle.lq_uniques.specs.declared.add_unique.AddUniqueConstraint.{AddUniqueConstraint}
-use Rattle.laws_made.specs.CreatedAs.{so_if}
-use Rattle.laws_made.specs.AddedAs.{cascade_if, foreign_change, index_change, index_column_of, key_change, sequence_change, unique_change, view_change}
-use Rattle.lq_generate.specs.Created.{named_in}
-use Rattle.lq_generate.specs.Rows.{Row, map_node, under}
+use Rattle.laws_made.specs.CreatedAs.{so_if, cascade_if, foreign_change, index_change, index_column_of, key_change, sequence_change, unique_change, view_change}
+use Rattle.lq_generate.specs.Types.{Row, map_node, under}
 use Rattle.laws_generate.proofs.CreatedRead.{Fits, items_are, name_read, name_there, no_catalogue, nowhere, schema_read, so_read, text_named, whole}
 use Rattle.laws_generate.proofs.NamesListed.{AreListed, names_read}
 use Rattle.laws_generate.proofs.NodesRead.{list_is, map_is, printed_text, text_is}

@@ -15,13 +15,13 @@ use Rattle.lq_kinds.specs.AnyChange.{any_change, at_only, named, named_key, name
 use Rattle.lq_kinds.specs.declared.any_change.AnyChange.TheVariants as any
 use Rattle.lq_tables.specs.CreateTable.{create_table}
 use Rattle.lq_tables.specs.declared.create_table.CreateTable.{CreateTable}
-use Rattle.lq_tree.specs.Found.{map_found, within}
+use Rattle.lq_tree.specs.Look.{map_found, within}
 use Rattle.lq_tree.specs.declared.node.Node.{Node}
 use Rattle.lq_views.specs.CreateSequence.{create_sequence}
 use Rattle.lq_views.specs.CreateView.{create_view}
 use Rattle.lq_views.specs.declared.create_sequence.CreateSequence.{CreateSequence}
 use Rattle.lq_views.specs.declared.create_view.CreateView.{CreateView}
-use Rattle.lq_generate.specs.Rows.{under}
+use Rattle.lq_generate.specs.Types.{under}
 use Rattle.laws_generate.proofs.NodesRead.{map_is}
 
 module _ (d : Dialect) (n : Node) where

@@ -22,13 +22,11 @@ use Rattle.lq_base.specs.declared.value.Value.TheVariants as value
 use Rattle.lq_generate.specs.Created.{key_name_of, named_in}
 use Rattle.lq_generate.specs.Faults.{Place, added_fault, column_of, created_fault, first_fault, first_of, first_sequence, first_table, first_view, foreign_fault, foreign_faults, is_lost, is_out, is_unwritten, key_fault, listed_fault, may_be_listed, own_key_fault}
 use Rattle.lq_model.proofs.Lists.{all-append_left, all-append_right, all_more, and_left, and_right, none_all, or_left, or_right}
-use Rattle.lq_model.specs.Catalogue.{Catalogue, Sequence, Table, View, table_of, the_table}
+use Rattle.lq_model.specs.Catalogue.{Catalogue, Sequence, Table, View, table_of, the_table, is_empty as has_none, column_lists, key_list, target_lists}
 use Rattle.lq_model.specs.Kinds.{kinds_at, kinds_differ, same_kinds}
-use Rattle.lq_model.specs.Names.{is_empty as has_none}
 use Rattle.lq_model.specs.Sound.{IsSound, IsSoundTable, are_columns, default_fits}
 use Rattle.lq_model.specs.SqlText.{query_in}
-use Rattle.lq_model.specs.Statement.{is_query}
-use Rattle.lq_model.specs.TableNames.{column_lists, key_list, target_lists}
+use Rattle.lq_model.specs.Step.{is_query}
 use Rattle.lq_model.specs.TestText.{query_text}
 use Rattle.lq_model.specs.declared.column.Column.{Column}
 use Rattle.lq_model.specs.declared.constraint.ForeignKey.{ForeignKey}
@@ -38,7 +36,7 @@ use Rattle.lq_model.specs.declared.index.Index.{Index}
 use Rattle.lq_model.specs.declared.query.Query.{Query}
 use Rattle.lq_tree.specs.Items.{is_empty}
 use Rattle.lq_views.specs.CreateSequence.{is_not_zero}
-use Rattle.laws_made.specs.Written.{IsWritten}
+use Rattle.laws_made.specs.CreatedAs.{IsWritten}
 use Rattle.laws_stages.proofs.Filled.{keyed_part, made_part}
 use Rattle.laws_stages.proofs.Woven.{whole_there}
 use Rattle.laws_generate.proofs.CreatedRead.{Fits, IsWritable}

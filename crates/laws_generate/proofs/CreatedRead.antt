@@ -19,12 +19,11 @@ use Rattle.lq_base.specs.declared.value.Value.TheVariants as value
 use Rattle.lq_model.specs.Catalogue.{Table}
 use Rattle.lq_model.specs.declared.column.Column.{Column}
 use Rattle.lq_model.specs.declared.constraint.Key.{Key}
-use Rattle.lq_tree.specs.Found.{Found, Taken, and_then, map_found, or_bad, within}
+use Rattle.lq_tree.specs.Look.{Found, Taken, and_then, map_found, or_bad, within, printed_of, value_at}
 use Rattle.lq_tree.specs.Given.{a_kind, a_name, a_truth, if_so}
 use Rattle.lq_tree.specs.Items.{a_column, column_in, is_empty, items_from, only, some_items_in}
 use Rattle.lq_tree.specs.Keys.{at_optional, at_required, catalogue, is_public, place, public_at, schema_at, schema_named}
 use Rattle.lq_tree.specs.Look as look
-use Rattle.lq_tree.specs.Look.{printed_of, value_at}
 use Rattle.lq_tree.specs.Values.{at_member, member, number_given}
 use Rattle.lq_tree.specs.declared.node.Node.{Node, Text as TextNode, Truth as TruthNode, Whole as WholeNode}
 use Rattle.lq_tree.specs.declared.values.GivenValue.{GivenValue}
@@ -41,15 +40,13 @@ use Rattle.lq_base.specs.declared.kind.Kind.TheVariants as kind
 use Rattle.lq_tree.specs.declared.values.ValueKey.TheVariants as by
 use Rattle.std.specs.Fmt.{decimal}
 use Rattle.lq_generate.specs.Created.{constraints_at, column_rows, column_tree, constraints_rows, created_rows, created_tree, date_at, date_text, key_name_of, number_at, text_at, truth_at}
-use Rattle.laws_made.specs.CreatedAs.{constraints_in, column_of, constraints_of, created, given_of}
-use Rattle.laws_generate.specs.RowAt.{row_at}
-use Rattle.lq_generate.specs.Rows.{Row, map_node, schema_at as schema_row, under}
-use Rattle.lq_generate.specs.Types.{type_text}
-use Rattle.lq_tables.specs.ValueKeys.{default_keys}
+use Rattle.laws_made.specs.CreatedAs.{constraints_in, column_of, constraints_of, created, given_of, IsWritten}
+use Rattle.laws_generate.specs.Again.{row_at}
+use Rattle.lq_generate.specs.Types.{Row, map_node, schema_at as schema_row, under, type_text}
+use Rattle.lq_tables.specs.Constraints.{default_keys}
 use Rattle.lq_tables.specs.declared.create_table.CreateTable.{CreateTable}
 use Rattle.lq_tables.specs.declared.create_table.CreatedColumn.{CreatedColumn}
 use Rattle.lq_tables.specs.declared.create_table.CreatedConstraints.{CreatedConstraints}
-use Rattle.laws_made.specs.Written.{IsWritten}
 use Rattle.laws_generate.proofs.NodesRead.{list_is, map_is, printed_text, printed_whole, text_is, truth_is}
 use Rattle.laws_generate.proofs.RowsRead.{all_known, and_left, differ, row_found}
 

@@ -4,22 +4,22 @@ use Rattle.std.specs.List.{AllByRecursion, flat_map}
 use Rattle.std.specs.Prelude.{List, Ok, Some, [], length, true, ℕ, ◌≡◌, ◌≤◌}
 use Rattle.lq_base.specs.declared.dialect.Dialect.{Dialect}
 use Rattle.lq_base.specs.declared.name.Name.{Name}
-use Rattle.lq_changelog.specs.Changelog.{changelog}
+use Rattle.lq_changelog.specs.Gathers.{changelog}
 use Rattle.lq_generate.specs.Generated.{generated_tree}
 use Rattle.lq_jsontext.specs.JsonText.{IsWritable}
-use Rattle.lq_kinds.specs.Label.{is_label}
+use Rattle.lq_kinds.specs.ChangeSets.{is_label}
 use Rattle.lq_kinds.specs.declared.change_set.ChangeSet.{ChangeSet}
 use Rattle.lq_kinds.specs.declared.change_set.Changelog.{Changelog}
 use Rattle.lq_model.specs.Catalogue.{Catalogue, View, no_objects}
 use Rattle.lq_model.specs.SqlText.{query_in}
-use Rattle.lq_model.specs.Statement.{is_query}
+use Rattle.lq_model.specs.Step.{is_query}
 use Rattle.lq_model.specs.TestText.{query_text}
 use Rattle.lq_model.specs.declared.query.Query.{Query}
 use Rattle.lq_model.specs.declared.statement.Statement.{Statement}
 use Rattle.lq_seen.specs.View.{any_meaning}
 use Rattle.lq_sources.specs.Source.{Source}
 use Rattle.lq_tree.specs.Json.{json_tree}
-use Rattle.lq_turns.specs.Effects.{inverses}
+use Rattle.lq_turns.specs.Set.{inverses}
 use Rattle.laws_made.proofs.Apart.{may_make}
 use Rattle.laws_made.proofs.Whole.{MayMake}
 use Rattle.laws_generate.proofs.CanWrite.{Can, can_write, defaults_written, queries_spelled, sequences_fit, tables_fit}
@@ -29,8 +29,7 @@ use Rattle.laws_generate.proofs.JsonPaths.{not_xml}
 use Rattle.laws_generate.proofs.Unfilled.{unfilled}
 use Rattle.laws_generate.proofs.Updates.{updates_new}
 use Rattle.laws_generate.proofs.Writable.{generated_writable}
-use Rattle.laws_generate.specs.Again.{IsFileOf, MayGenerate, SetsRun, TextComesAgain, UpdatesNew}
-use Rattle.laws_generate.specs.Sets.{generated_changelog, without_rows}
+use Rattle.laws_generate.specs.Again.{IsFileOf, MayGenerate, SetsRun, TextComesAgain, UpdatesNew, generated_changelog, without_rows}
 
 abbrev pub ReadBack : Dialect → Type 0
 ReadBack d = (q : Query) → is_query d q ≡ true → query_in d (query_text d q) ≡ Some q

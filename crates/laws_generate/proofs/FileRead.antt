@@ -4,37 +4,29 @@ use Rattle.std.specs.List.{AllByRecursion, position}
 use Rattle.std.specs.Prelude.{Bool, List, None, Ok, Option, Some, [], codes, cond, false, length, map, nat_le, nat_lt, refl, suc, true, ℕ, ◌+◌, ◌++◌, ◌∷◌, ◌≡◌, ◌≤◌}
 use Rattle.lq_base.specs.declared.dialect.Dialect.{Dialect}
 use Rattle.lq_base.specs.declared.run.OnFail.TheVariants.{Halt}
-use Rattle.lq_changelog.specs.Changelog.{changelog, changelog_of, nothing}
-use Rattle.lq_changelog.specs.Contents.{Contents}
-use Rattle.lq_changelog.specs.Gathers.{gathers, meaning, set_in, tree_set}
+use Rattle.lq_changelog.specs.Gathers.{changelog, changelog_of, nothing, Contents, gathers, meaning, set_in, tree_set}
 use Rattle.lq_cond.specs.declared.cond.Cond.TheVariants.{And}
 use Rattle.lq_contents.specs.Trees.{file_tree}
 use Rattle.lq_kinds.specs.AnyChange.{any_change}
-use Rattle.lq_kinds.specs.ChangeSets.{set_of}
-use Rattle.lq_kinds.specs.Changes.{is_tagging}
-use Rattle.lq_kinds.specs.Label.{is_label}
+use Rattle.lq_kinds.specs.ChangeSets.{set_of, is_label}
+use Rattle.lq_kinds.specs.Changes.{is_tagging, changes_from}
 use Rattle.lq_kinds.specs.declared.any_change.AnyChange.{AnyChange}
 use Rattle.lq_kinds.specs.declared.change_set.ChangeSet.{ChangeSet}
 use Rattle.lq_kinds.specs.declared.change_set.Changelog.{Changelog}
-use Rattle.lq_sources.specs.Faults.{Loaded}
-use Rattle.lq_sources.specs.Items.{entry_of, item_at, items_of}
+use Rattle.lq_sources.specs.Faults.{Loaded, ◌>>=◌}
+use Rattle.lq_sources.specs.Items.{entry_of, item_at, items_of, SoFar, nothing_yet, with_set, Values, filled, value_in, with_file}
 use Rattle.lq_paths.specs.Paths.{format_of, is_xml}
-use Rattle.lq_sources.specs.SoFar.{SoFar, nothing_yet, with_set}
 use Rattle.lq_sources.specs.Source.{Source}
-use Rattle.lq_sources.specs.Values.{Values, filled, value_in}
 use Rattle.lq_sources.specs.Walk.{Held, bytes_read, each_from, entry_at, file, item_gathered, item_read, item_with_files, items_read, root_file, take_item, walked, written}
 use Rattle.lq_paths.specs.declared.path.Format.TheVariants.{Json}
 use Rattle.std.proofs.lemmas.Bool.Decides.{nat_tests}
-use Rattle.lq_sources.specs.Faults.{◌>>=◌}
-use Rattle.lq_sources.specs.SoFar.{with_file}
 use Rattle.lq_tree.specs.Items.{items_from}
 use Rattle.lq_tree.specs.Json.{json_tree}
 use Rattle.laws_stages.proofs.Loops.{append_none}
 use Rattle.lq_tree.specs.declared.node.Node.{List as ListNode, Node}
-use Rattle.lq_generate.specs.Rows.{Row, map_node, under}
+use Rattle.lq_generate.specs.Types.{Row, map_node, under}
 use Rattle.lq_generate.specs.Generated.{set_rows, set_tree}
-use Rattle.lq_kinds.specs.Loads.{changes_from}
-use Rattle.laws_generate.specs.Sets.{generated_set}
+use Rattle.laws_generate.specs.Again.{generated_set}
 use Rattle.laws_generate.proofs.NodesRead.{list_is, map_is}
 use Rattle.laws_generate.proofs.RowsRead.{all_known, row_found}
 use Rattle.laws_generate.proofs.SetRead.{set_read}

@@ -1,12 +1,12 @@
 -- The changelog that is generated: one file with its tree is that changelog, and its changes make the catalogue without rows, all fresh and with inverses.
 use Rattle.std.proofs.Common.{arith, ap, sym, ◌∙◌, append_assoc}
-use Rattle.std.specs.List.{AllByRecursion, flat_map}
+use Rattle.std.specs.List.{AllByRecursion, flat_map, list_any}
 use Rattle.std.specs.Prelude.{Bool, List, None, Ok, Option, Some, [], codes, cond, false, if◌then◌else◌, length, map, refl, true, ℕ, ◌+◌, ◌++◌, ◌∷◌, ◌≡◌, ◌≤◌}
 use Rattle.lq_base.specs.declared.dialect.Dialect.{Dialect}
 use Rattle.lq_base.specs.declared.dialect.Dialect.TheVariants.{Mysql, Postgresql}
 use Rattle.lq_base.specs.declared.name.Name.{Name}
-use Rattle.lq_changelog.specs.Changelog.{changelog}
-use Rattle.lq_kinds.specs.Label.{is_label}
+use Rattle.lq_changelog.specs.Gathers.{changelog}
+use Rattle.lq_kinds.specs.ChangeSets.{is_label}
 use Rattle.lq_kinds.specs.declared.any_change.AnyChange.{AnyChange}
 use Rattle.lq_kinds.specs.declared.change_set.ChangeSet.{ChangeSet}
 use Rattle.lq_kinds.specs.declared.change_set.Changelog.{Changelog}
@@ -18,21 +18,20 @@ use Rattle.lq_model.specs.declared.statement.Statement.{Statement}
 use Rattle.lq_seen.specs.View.{any_meaning}
 use Rattle.lq_paths.specs.Paths.{format_of, is_xml}
 use Rattle.lq_sources.specs.Source.{Source}
-use Rattle.lq_sources.specs.Values.{filled}
+use Rattle.lq_sources.specs.Items.{filled}
 use Rattle.lq_paths.specs.declared.path.Format.TheVariants.{Json}
 use Rattle.lq_tree.specs.Items.{is_empty}
 use Rattle.lq_tree.specs.Json.{json_tree}
 use Rattle.lq_tree.specs.declared.node.Node.{Node}
-use Rattle.lq_turns.specs.Effects.{all_fresh, effects, inverses}
-use Rattle.std.specs.List.{list_any}
+use Rattle.lq_turns.specs.Set.{all_fresh, effects, inverses}
 use Rattle.std.specs.Str.{chars}
-use Rattle.laws_made.specs.Changes.{all_changes, of_aims, of_filling, of_foreign, of_index, of_key, of_own_key, of_sequence, of_table, of_unique, of_view}
+use Rattle.laws_made.specs.CreatedAs.{all_changes, of_aims, of_filling, of_foreign, of_index, of_key, of_own_key, of_sequence, of_table, of_unique, of_view}
 use Rattle.laws_made.proofs.Effects.{all_plain, all_undone, whole_effects}
 use Rattle.laws_generate.proofs.CanWrite.{Can, CanSequence}
 use Rattle.lq_generate.specs.Generated.{generated_tree}
 use Rattle.lq_base.specs.declared.run.OnFail.TheVariants.{Halt}
 use Rattle.lq_cond.specs.declared.cond.Cond.TheVariants.{And}
-use Rattle.laws_generate.specs.Sets.{change_sets, five_changes, generated_changelog, generated_set, without_rows}
+use Rattle.laws_generate.specs.Again.{change_sets, five_changes, generated_changelog, generated_set, without_rows}
 use Rattle.laws_generate.proofs.TreesSame.{tree_same}
 use Rattle.laws_generate.proofs.FileRead.{IsMade, Made, no_value, root_tree, set_made, whole, whole_read}
 use Rattle.laws_made.proofs.Fresh.{whole_fresh}

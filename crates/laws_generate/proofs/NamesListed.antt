@@ -7,12 +7,11 @@ use Rattle.std.proofs.lemmas.Slice.Eq.{bytes_eq-Decides}
 use Rattle.lq_base.specs.Name.{is_name}
 use Rattle.lq_base.specs.declared.name.Name.{Name}
 use Rattle.lq_model.proofs.Lists.{append-nil, or_left, or_right}
-use Rattle.lq_tree.specs.Blanks.{comma_parts, is_comma, without_blanks}
-use Rattle.lq_tree.specs.Found.{and_then, map_found}
+use Rattle.lq_tree.specs.Given.{comma_parts, is_comma, without_blanks, part_name, part_names, some_names}
+use Rattle.lq_tree.specs.Look.{and_then, map_found}
 use Rattle.lq_tree.specs.Items.{is_empty}
-use Rattle.lq_tree.specs.Names.{part_name, part_names, some_names}
 use Rattle.lq_tree.specs.declared.node.Node.{Text as TextNode}
-use Rattle.lq_generate.specs.Added.{listed}
+use Rattle.lq_generate.specs.Created.{listed}
 use Rattle.lq_generate.specs.Faults.{may_be_listed}
 use Rattle.laws_generate.proofs.NodesRead.{printed_text}
 use Rattle.laws_generate.proofs.RowsRead.{and_left, and_right}

@@ -10,11 +10,9 @@ use Rattle.lq_base.specs.declared.dialect.Dialect.TheVariants.{Mysql, Postgresql
 use Rattle.lq_base.specs.declared.kind.Kind.{Kind}
 use Rattle.lq_base.specs.declared.name.Name.{Name}
 use Rattle.lq_model.proofs.Lists.{all-map, all_more, and_left, and_right, and_true, any-append, or_left, or_right, same_name}
-use Rattle.lq_model.specs.Catalogue.{Catalogue, Table, no_table}
+use Rattle.lq_model.specs.Catalogue.{Catalogue, Table, no_table, is_empty, is_in, repeats, column_names, constraint_names, key_list}
 use Rattle.lq_model.specs.Kinds.{kind_of, same_kind, same_kinds}
-use Rattle.lq_model.specs.Names.{is_empty, is_in, repeats}
 use Rattle.lq_model.specs.Sound.{IsSoundTable, are_columns, may_name}
-use Rattle.lq_model.specs.TableNames.{column_names, constraint_names, key_list}
 use Rattle.lq_model.specs.declared.column.Column.{Column}
 use Rattle.lq_model.specs.declared.constraint.ForeignKey.{ForeignKey}
 use Rattle.lq_model.specs.declared.constraint.Key.{Key}

@@ -8,12 +8,10 @@ use Rattle.lq_base.specs.Name.{is_name, is_named, is_object}
 use Rattle.lq_base.specs.declared.dialect.Dialect.{Dialect}
 use Rattle.lq_base.specs.declared.name.Name.{Name}
 use Rattle.lq_model.proofs.Lists.{all-map, all_more, and_left, and_right, and_true, same_name}
-use Rattle.lq_model.specs.Catalogue.{Catalogue, Table, View, no_table, table_of, the_table}
-use Rattle.lq_model.specs.Names.{is_empty, is_in, repeats, same_names}
+use Rattle.lq_model.specs.Catalogue.{Catalogue, Table, View, no_table, table_of, the_table, is_empty, is_in, repeats, same_names, column_names}
 use Rattle.lq_model.specs.Sound.{IsSound, are_columns, is_view, wanted_names}
-use Rattle.lq_model.specs.Spelled.{is_spelled}
-use Rattle.lq_model.specs.TableNames.{column_names}
-use Rattle.lq_model.specs.Statement.{is_query, is_wanted}
+use Rattle.lq_model.specs.Comparison.{is_spelled}
+use Rattle.lq_model.specs.Step.{is_query, is_wanted}
 use Rattle.lq_model.specs.Truth.{names_in}
 use Rattle.lq_model.specs.declared.column.Column.{Column}
 use Rattle.lq_model.specs.declared.query.Wanted.{Wanted}

@@ -6,13 +6,12 @@ use Rattle.std.specs.Prelude.{Bool, Err, List, None, Ok, Option, Some, [], codes
 use Rattle.std.specs.Str.{bytes_eq}
 use Rattle.std.proofs.lemmas.Slice.Eq.{bytes_eq-Decides}
 use Rattle.lq_base.specs.declared.fault.KindFault.TheVariants.{Bad, Unknown}
-use Rattle.lq_tree.specs.Found.{Found}
+use Rattle.lq_tree.specs.Look.{Found, is_among, map_of, unknown_key, value_at}
 use Rattle.lq_tree.specs.Keys.{known}
-use Rattle.lq_tree.specs.Look.{is_among, map_of, unknown_key, value_at}
 use Rattle.lq_tree.specs.declared.node.Node.{Map as MapNode, Node}
 use Rattle.laws_generate.proofs.NodesRead.{map_is}
-use Rattle.laws_generate.specs.RowAt.{row_at}
-use Rattle.lq_generate.specs.Rows.{Row, map_node, present}
+use Rattle.laws_generate.specs.Again.{row_at}
+use Rattle.lq_generate.specs.Types.{Row, map_node, present}
 
 pub and_left : (a b : Bool) → (a && b) ≡ true → a ≡ true
 and_left true b h = refl

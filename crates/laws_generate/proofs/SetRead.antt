@@ -3,16 +3,13 @@ use Rattle.std.proofs.Common.{ap, ◌∙◌}
 use Rattle.std.specs.List.{position}
 use Rattle.std.specs.Prelude.{Bool, List, None, Ok, Option, Some, [], codes, false, refl, true, ℕ, ◌∷◌, ◌≡◌}
 use Rattle.lq_base.specs.declared.dialect.Dialect.{Dialect}
-use Rattle.lq_kinds.specs.ChangeSets.{heading, notes, only_known, path_at, running, selection, set_of, set_with}
-use Rattle.lq_kinds.specs.Changes.{changes_at, changes_of, here_at, is_read, is_tagging, rollback_at}
-use Rattle.lq_kinds.specs.Context.{context_at}
-use Rattle.lq_kinds.specs.Label.{a_label, is_label}
+use Rattle.lq_kinds.specs.ChangeSets.{heading, notes, only_known, path_at, running, selection, set_of, set_with, context_at, a_label, is_label}
+use Rattle.lq_kinds.specs.Changes.{changes_at, changes_of, here_at, is_read, is_tagging, rollback_at, changes_from}
 use Rattle.lq_kinds.specs.declared.any_change.AnyChange.{AnyChange}
 use Rattle.lq_tree.specs.declared.node.Node.{Node, Text as TextNode}
 use Rattle.lq_generate.specs.Generated.{set_rows}
-use Rattle.lq_generate.specs.Rows.{map_node}
-use Rattle.lq_kinds.specs.Loads.{changes_from}
-use Rattle.laws_generate.specs.Sets.{generated_set}
+use Rattle.lq_generate.specs.Types.{map_node}
+use Rattle.laws_generate.specs.Again.{generated_set}
 use Rattle.laws_generate.proofs.NodesRead.{list_is, printed_text}
 use Rattle.laws_generate.proofs.RowsRead.{all_known, row_found}
 

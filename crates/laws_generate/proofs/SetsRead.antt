@@ -9,7 +9,7 @@ use Rattle.lq_base.specs.declared.dialect.Dialect.{Dialect}
 use Rattle.lq_base.specs.declared.dialect.Dialect.TheVariants.{Mysql, Postgresql}
 use Rattle.lq_base.specs.declared.name.Name.{Name}
 use Rattle.lq_kinds.specs.AnyChange.{any_change}
-use Rattle.lq_kinds.specs.Changes.{is_tagging}
+use Rattle.lq_kinds.specs.Changes.{is_tagging, changes_from, load_of}
 use Rattle.lq_kinds.specs.declared.any_change.AnyChange.{AnyChange}
 use Rattle.lq_model.specs.Catalogue.{Catalogue, Sequence, Table, View}
 use Rattle.lq_model.specs.SqlText.{query_in}
@@ -19,24 +19,20 @@ use Rattle.lq_model.specs.declared.constraint.ForeignKey.{ForeignKey}
 use Rattle.lq_model.specs.declared.constraint.Key.{Key}
 use Rattle.lq_model.specs.declared.constraint.Unique.{Unique}
 use Rattle.lq_model.specs.declared.index.Index.{Index}
-use Rattle.lq_tree.specs.Found.{Found, Taken, and_then, map_found, within}
+use Rattle.lq_tree.specs.Look.{Found, Taken, and_then, map_found, within}
 use Rattle.lq_tree.specs.Items.{is_empty, items_from}
 use Rattle.lq_tree.specs.declared.node.Node.{Node}
 use Rattle.lq_views.specs.CreateSequence.{is_not_zero}
-use Rattle.lq_generate.specs.Added.{foreign_tree, index_tree, key_tree, sequence_tree, unique_tree, view_tree}
-use Rattle.laws_made.specs.AddedAs.{foreign_change, index_change, key_change, sequence_change, unique_change, view_change}
-use Rattle.laws_made.specs.Changes.{of_aims, of_filling, of_foreign, of_index, of_key, of_own_key, of_sequence, of_table, of_unique, of_view}
-use Rattle.lq_generate.specs.Created.{created_tree, named_in}
-use Rattle.laws_made.specs.CreatedAs.{created}
-use Rattle.lq_generate.specs.Rows.{under}
+use Rattle.lq_generate.specs.Created.{foreign_tree, index_tree, key_tree, sequence_tree, unique_tree, view_tree, created_tree, named_in}
+use Rattle.laws_made.specs.CreatedAs.{foreign_change, index_change, key_change, sequence_change, unique_change, view_change, of_aims, of_filling, of_foreign, of_index, of_key, of_own_key, of_sequence, of_table, of_unique, of_view, created}
+use Rattle.lq_generate.specs.Types.{under}
 use Rattle.laws_generate.proofs.NamesListed.{AreListed}
 use Rattle.laws_generate.proofs.AddedRead.{foreign_read, index_read, key_read, sequence_read, unique_read, view_read}
 use Rattle.laws_generate.proofs.AnyRead.{any_foreign, any_index, any_key, any_sequence, any_table, any_unique, any_view}
 use Rattle.laws_generate.proofs.CanWrite.{CanFill, CanSequence, CanTable, CanView}
 use Rattle.laws_generate.proofs.CreatedRead.{Fits, created_read, items_are}
 use Rattle.std.specs.Str.{bytes_eq}
-use Rattle.lq_kinds.specs.Label.{is_label}
-use Rattle.lq_kinds.specs.Loads.{changes_from, load_of}
+use Rattle.lq_kinds.specs.ChangeSets.{is_label}
 use Rattle.laws_generate.proofs.NodesRead.{map_is}
 use Rattle.lq_kinds.specs.declared.any_change.AnyChange.TheVariants as any
 use Rattle.laws_made.proofs.Effects.{both_of}

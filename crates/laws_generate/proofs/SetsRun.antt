@@ -11,10 +11,9 @@ use Rattle.lq_model.proofs.Lists.{and_left, and_right, and_true}
 use Rattle.lq_model.specs.Catalogue.{Catalogue, no_objects}
 use Rattle.lq_model.specs.Sound.{IsSound}
 use Rattle.lq_seen.specs.View.{any_meaning}
-use Rattle.lq_turns.specs.Effects.{all_fresh, effects, not_fresh}
+use Rattle.lq_turns.specs.Set.{all_fresh, effects, not_fresh}
 use Rattle.laws_made.proofs.Fresh.{fresh_all}
-use Rattle.laws_generate.specs.Again.{SetsRun}
-use Rattle.laws_generate.specs.Sets.{without_rows}
+use Rattle.laws_generate.specs.Again.{SetsRun, without_rows}
 use Rattle.laws_generate.proofs.CanWrite.{Can}
 use Rattle.laws_generate.proofs.Generated.{changes_of, generated, generated_effects, generated_fresh}
 use Rattle.laws_made.proofs.Whole.{MayMake}

@@ -13,18 +13,15 @@ use Rattle.lq_expr.specs.declared.expr.Expr.{Expr}
 use Rattle.lq_expr.specs.declared.options.Options.{Options}
 use Rattle.lq_kinds.specs.declared.any_change.AnyChange.{AnyChange}
 use Rattle.lq_model.specs.Catalogue.{Catalogue}
-use Rattle.lq_seen.specs.Selection.{is_met, is_selected}
-use Rattle.lq_seen.specs.View.{any_meaning, view}
-use Rattle.lq_turns.specs.Contents.{Contents}
-use Rattle.lq_turns.specs.Deed.{rows_after}
-use Rattle.lq_turns.specs.Effects.{effects, not_fresh}
-use Rattle.lq_turns.specs.Set.{Set, row_at}
+use Rattle.lq_seen.specs.View.{is_met, is_selected, any_meaning, view}
+use Rattle.lq_turns.specs.Deed.{Contents, rows_after}
+use Rattle.lq_turns.specs.Set.{effects, not_fresh, Set, row_at}
 use Rattle.lq_turns.specs.Settle.{Settled, choice, greatest, happens, row_for, run_ending, run_turn, settle, settled_as, settled_by}
 use Rattle.lq_turns.specs.Turn.{Ending, Finished, ending, kept, refused, row_ending}
 use Rattle.lq_turns.specs.declared.choice.Choice.TheVariants.{Runs}
 use Rattle.lq_turns.specs.declared.choice.What.TheVariants.{New}
 use Rattle.lq_turns.specs.declared.deed.OnRows.TheVariants.{Inserted}
-use Rattle.laws_generate.specs.Sets.{generated_set}
+use Rattle.laws_generate.specs.Again.{generated_set}
 
 pub nothing_asked : (d : Dialect) (c : Catalogue) (rows : List Tracked) → told d (And []) c rows ≡ Ok true
 nothing_asked d c rows = search (rules, the_lemmas)

@@ -5,7 +5,7 @@ use Rattle.std.specs.Prelude.{Bool, List, None, Option, Some, [], codes, cond, f
 use Rattle.lq_base.specs.declared.dialect.Dialect.{Dialect}
 use Rattle.lq_base.specs.declared.name.Name.{Name}
 use Rattle.lq_generate.specs.Generated.{added_items, five_sets, foreign_item, foreign_items, generated_tree, index_item, is_numbered, key_items, own_key_items, sequence_item, set_tree, set_trees, table_item, unique_item, view_item}
-use Rattle.lq_generate.specs.Rows.{under}
+use Rattle.lq_generate.specs.Types.{under}
 use Rattle.lq_model.specs.Catalogue.{Catalogue, Sequence, Table, View}
 use Rattle.lq_model.specs.declared.constraint.ForeignKey.{ForeignKey}
 use Rattle.lq_model.specs.declared.constraint.Key.{Key}

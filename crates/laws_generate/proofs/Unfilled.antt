@@ -1,7 +1,7 @@
 -- A tree into which nothing is put stays as it is.
 use Rattle.std.proofs.Common.{◌≡◌, ◌∙◌, ℕ, ℤ, Bool, List, [], ◌∷◌, map, subst, refl, ap, sym, rules}
 use Rattle.lq_props.specs.Replaced.{replaced}
-use Rattle.lq_sources.specs.Values.{filled}
+use Rattle.lq_sources.specs.Items.{filled}
 use Rattle.lq_tree.specs.declared.node.Node.{List as ListNode, Map as MapNode, Node, Null, Text as TextNode, Truth, Whole, map-Node, roll-Node, the_lemmas}
 use Rattle.lq_tree.specs.declared.node.Node.TheOpen.{Node-F}
 use Rattle.lq_tree.specs.declared.node.Node.TheFolds.{ind-Node}

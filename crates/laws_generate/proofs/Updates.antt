@@ -21,18 +21,16 @@ use Rattle.lq_track.specs.Database.{same_identity}
 use Rattle.lq_track.specs.Log.{identity_of}
 use Rattle.lq_tree.specs.Items.{is_empty}
 use Rattle.lq_turns.proofs.RowsFound.{inserted_apart}
-use Rattle.lq_turns.specs.Contents.{Contents}
-use Rattle.lq_turns.specs.Deed.{rows_after}
+use Rattle.lq_turns.specs.Deed.{Contents, rows_after}
 use Rattle.lq_turns.specs.Set.{Set, row_at}
 use Rattle.lq_turns.specs.Settle.{Settled, all_settled, by_own, greatest, happens, own_choice, row_for, settle, tested, unless_stopped, updated}
 use Rattle.lq_turns.specs.declared.choice.Choice.{Choice}
 use Rattle.lq_turns.specs.declared.choice.Choice.TheVariants.{Runs}
 use Rattle.lq_turns.specs.declared.choice.What.TheVariants.{New}
 use Rattle.lq_turns.specs.declared.deed.OnRows.TheVariants.{Inserted}
-use Rattle.laws_made.specs.Changes.{of_aims, of_filling, of_sequence, of_table, of_view}
+use Rattle.laws_made.specs.CreatedAs.{of_aims, of_filling, of_sequence, of_table, of_view}
 use Rattle.laws_generate.proofs.Settled.{nothing_asked, set_settles}
-use Rattle.laws_generate.specs.Again.{SetsRun, UpdatesNew, new_database}
-use Rattle.laws_generate.specs.Sets.{change_sets, five_changes, generated_changelog, generated_set, without_rows}
+use Rattle.laws_generate.specs.Again.{SetsRun, UpdatesNew, new_database, change_sets, five_changes, generated_changelog, generated_set, without_rows}
 
 abbrev Named : Type 0
 Named = List ℕ × List AnyChange

@@ -16,11 +16,10 @@ use Rattle.lq_base.specs.declared.kind.Kind.TheVariants as kind
 use Rattle.lq_base.specs.declared.name.Name.{Name}
 use Rattle.lq_base.specs.declared.value.Value.{Value}
 use Rattle.lq_base.specs.declared.value.Value.TheVariants as value
-use Rattle.lq_generate.specs.Added.{foreign_rows, foreign_tree, if_cascade, index_column_tree, index_rows, index_tree, key_rows, key_tree, sequence_rows, sequence_tree, unique_rows, unique_tree, view_rows, view_tree}
-use Rattle.lq_generate.specs.Created.{column_rows, column_tree, constraints_at, constraints_rows, created_rows, created_tree, date_at, if_true, named_in, number_at, text_at, truth_at}
+use Rattle.lq_generate.specs.Created.{foreign_rows, foreign_tree, if_cascade, index_column_tree, index_rows, index_tree, key_rows, key_tree, sequence_rows, sequence_tree, unique_rows, unique_tree, view_rows, view_tree, column_rows, column_tree, constraints_at, constraints_rows, created_rows, created_tree, date_at, if_true, named_in, number_at, text_at, truth_at}
 use Rattle.lq_generate.specs.Faults.{is_long, is_out}
 use Rattle.lq_generate.specs.Generated.{added_items, five_sets, foreign_item, foreign_items, generated_tree, index_item, is_numbered, key_items, own_key_items, sequence_item, set_rows, set_tree, set_trees, table_item, unique_item, view_item}
-use Rattle.lq_generate.specs.Rows.{Row, map_node, present, schema_at, under}
+use Rattle.lq_generate.specs.Types.{Row, map_node, present, schema_at, under}
 use Rattle.lq_jsontext.specs.JsonText.{IsWritable, are_held, is_held, levels, most}
 use Rattle.lq_model.proofs.Lists.{and_left, and_right, and_true}
 use Rattle.lq_model.specs.Catalogue.{Catalogue, Sequence, Table, View}
@@ -31,7 +30,7 @@ use Rattle.lq_model.specs.declared.constraint.Key.{Key}
 use Rattle.lq_model.specs.declared.constraint.Unique.{Unique}
 use Rattle.lq_model.specs.declared.index.Index.{Index}
 use Rattle.lq_tree.specs.Items.{is_empty}
-use Rattle.lq_tree.specs.Tree.{is_tree, rises}
+use Rattle.lq_tree.specs.Json.{is_tree, rises}
 use Rattle.lq_tree.specs.declared.node.Node.{List as ListNode, Map as MapNode, Node, Text as TextNode, Truth as TruthNode, Whole as WholeNode, the_lemmas}
 
 -- a tree with its maps in order, its numbers held, and no deeper than that

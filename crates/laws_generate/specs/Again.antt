@@ -1,32 +1,85 @@
--- What a generated changelog is read as, and what it does.
-use Rattle.std.specs.Prelude.{List, None, Ok, Some, [], false, length, map, true, ℕ, ◌∷◌, ◌≡◌, ◌≤◌}
+-- A generated changelog, as it is read.
 use Rattle.std.specs.List.{flat_map}
+use Rattle.std.specs.Prelude.{List, None, Ok, Option, Some, [], codes, false, if◌then◌else◌, length, map, true, ℕ, ◌∷◌, ◌≡◌, ◌≤◌}
+use Rattle.std.specs.Str.{bytes_eq}
+use Rattle.laws_made.specs.CreatedAs.{of_aims, of_filling, of_sequence, of_table, of_view}
+use Rattle.laws_stages.specs.Making.{full, with_tables_as}
 use Rattle.lq_base.specs.declared.dialect.Dialect.{Dialect}
 use Rattle.lq_base.specs.declared.run.Did.TheVariants.{Ran}
-use Rattle.lq_changelog.specs.Changelog.{changelog}
+use Rattle.lq_base.specs.declared.run.OnFail.TheVariants.{Halt}
+use Rattle.lq_changelog.specs.Gathers.{changelog}
+use Rattle.lq_cond.specs.declared.cond.Cond.TheVariants.{And}
 use Rattle.lq_expr.specs.declared.options.Options.{Options}
 use Rattle.lq_generate.specs.Faults.{first_fault}
 use Rattle.lq_generate.specs.Generated.{generated_tree}
+use Rattle.lq_generate.specs.Types.{Row}
 use Rattle.lq_jsontext.specs.JsonText.{IsWritable}
-use Rattle.lq_kinds.specs.Label.{is_label}
+use Rattle.lq_kinds.specs.ChangeSets.{is_label, old_sum_of, sum_of}
 use Rattle.lq_kinds.specs.declared.any_change.AnyChange.{AnyChange}
 use Rattle.lq_kinds.specs.declared.change_set.ChangeSet.{ChangeSet}
 use Rattle.lq_kinds.specs.declared.change_set.Changelog.{Changelog}
 use Rattle.lq_model.specs.Catalogue.{Catalogue, no_objects}
 use Rattle.lq_model.specs.Sound.{IsSound}
 use Rattle.lq_model.specs.declared.statement.Statement.{Statement}
+use Rattle.lq_named.specs.Named.{HasNames}
 use Rattle.lq_paths.specs.Paths.{format_of, is_xml}
 use Rattle.lq_paths.specs.declared.path.Format.TheVariants.{Json}
 use Rattle.lq_seen.specs.View.{any_meaning, view_log, views}
 use Rattle.lq_sources.specs.Source.{Source}
-use Rattle.lq_store.specs.Apart.{is_apart}
+use Rattle.lq_store.specs.Journal.{is_apart}
+use Rattle.lq_tree.specs.Items.{is_empty}
 use Rattle.lq_tree.specs.Json.{json_tree}
-use Rattle.lq_turns.specs.Contents.{Contents}
-use Rattle.lq_turns.specs.Effects.{effects, inverses, not_fresh}
-use Rattle.lq_turns.specs.Set.{Set}
+use Rattle.lq_tree.specs.declared.node.Node.{Node}
+use Rattle.lq_turns.specs.Deed.{Contents}
+use Rattle.lq_turns.specs.Set.{Set, effects, inverses, not_fresh}
 use Rattle.lq_turns.specs.Settle.{Settled, happens, updated}
-use Rattle.lq_named.specs.Named.{HasNames}
-use Rattle.laws_generate.specs.Sets.{generated_changelog, without_rows}
+
+abbrev pub generated_set : List ℕ → List ℕ → List ℕ → List AnyChange → ChangeSet
+generated_set path id author changes = record {
+  identity = record { file = path; id = id; author = author };
+  here = true;
+  changes = changes;
+  rollback = None;
+  context = None;
+  labels = [];
+  context_text = [];
+  labels_text = [];
+  comment = [];
+  run_always = false;
+  run_on_change = false;
+  fail_on_error = true;
+  in_transaction = true;
+  valid_sums = [];
+  cond = And [];
+  on_fail = Halt;
+  on_error = Halt;
+  sum = sum_of changes;
+  old_sum = old_sum_of changes;
+}
+
+-- each changeset's id and its changes
+abbrev pub five_changes : Dialect → Catalogue → List (List ℕ × List AnyChange)
+five_changes d c =
+    (codes "1", map of_sequence c.sequences)
+    ∷ (codes "2", map (of_table d) c.tables)
+    ∷ (codes "3", flat_map (of_filling d) c.tables)
+    ∷ (codes "4", flat_map of_aims c.tables)
+    ∷ (codes "5", map (of_view d) c.views)
+    ∷ []
+
+-- those that have changes, in the file at a path
+abbrev pub change_sets : List ℕ → List ℕ → List (List ℕ × List AnyChange) → List ChangeSet
+change_sets path author [] = []
+change_sets path author (s ∷ ss) = if is_empty s.1 then change_sets path author ss else generated_set path s.0 author s.1 ∷ change_sets path author ss
+
+abbrev pub generated_changelog : Dialect → List ℕ → List ℕ → Catalogue → Changelog
+generated_changelog d path author c = record { cond = And []; on_fail = Halt; on_error = Halt; sets = change_sets path author (five_changes d c) }
+
+-- the catalogue without its rows, each next number 1
+abbrev pub without_rows : Catalogue → Catalogue
+without_rows c = with_tables_as full c c.views
+
+-- What a generated changelog is read as, and what it does.
 
 -- the users' catalogue of a database, of which nothing is in the way
 pub record MayGenerate (d : Dialect) (c : Catalogue) : Type 0 where
@@ -99,3 +152,10 @@ CanBeUndone = (d : Dialect) (path author : List ℕ) (c : Catalogue) → MayGene
 abbrev pub AllComesAgain : Type 0
 AllComesAgain = (d : Dialect) (author : List ℕ) (c : Catalogue) → MayGenerate d c → is_label author ≡ true
     → (text : List ℕ) → length text ≤ 16777216 → json_tree text ≡ Ok (generated_tree d author c) → TextComesAgain d c text
+
+-- Rows of a map, by their keys.
+
+-- what stands at a key
+abbrev pub row_at : List ℕ → List Row → Option Node
+row_at key [] = None
+row_at key (r ∷ rs) = if bytes_eq key r.0 then r.1 else row_at key rs

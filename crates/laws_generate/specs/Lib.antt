@@ -1,3 +1,1 @@
 pub mod Again
-pub mod RowAt
-pub mod Sets

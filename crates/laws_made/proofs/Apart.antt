@@ -7,19 +7,16 @@ use Rattle.lq_base.specs.declared.dialect.Dialect.{Dialect}
 use Rattle.lq_base.specs.declared.dialect.Dialect.TheVariants.{Mysql, Postgresql}
 use Rattle.lq_base.specs.declared.name.Name.{Name}
 use Rattle.lq_model.proofs.Lists.{and_left, and_right, any-append, any-map, append-nil, or_false, or_left, or_right}
-use Rattle.lq_model.specs.Catalogue.{Catalogue, Sequence, Table, View}
-use Rattle.lq_model.specs.NameSpaces.{names_inside, object_names, shared_names}
-use Rattle.lq_model.specs.Names.{is_in}
-use Rattle.lq_model.specs.Reserved.{is_reserved, is_tracking, lock_key, takes_lock_key}
-use Rattle.lq_model.specs.TableNames.{constraint_names, foreign_names, inner_names, key_list, placed}
+use Rattle.lq_model.specs.Catalogue.{Catalogue, Sequence, Table, View, is_in, constraint_names, foreign_names, inner_names, key_list, placed}
+use Rattle.lq_model.specs.NameSpaces.{names_inside, object_names, shared_names, is_reserved, is_tracking, lock_key, takes_lock_key}
 use Rattle.lq_model.specs.declared.caller.By.TheVariants.{User}
 use Rattle.lq_model.specs.declared.column.Column.{Column}
 use Rattle.lq_model.specs.declared.constraint.ForeignKey.{ForeignKey}
 use Rattle.lq_model.specs.declared.constraint.Key.{Key}
 use Rattle.lq_model.specs.declared.constraint.Unique.{Unique}
 use Rattle.lq_model.specs.declared.index.Index.{Index}
-use Rattle.lq_store.specs.Apart.{is_apart, names_tracking, names_within, takes_key}
-use Rattle.laws_made.specs.Written.{IsWritten}
+use Rattle.lq_store.specs.Journal.{is_apart, names_tracking, names_within, takes_key}
+use Rattle.laws_made.specs.CreatedAs.{IsWritten}
 use Rattle.laws_stages.proofs.Foreign.{in_any}
 use Rattle.laws_made.proofs.Joined.{IsFreeTable}
 use Rattle.laws_stages.proofs.Stages.{bare, tables_inner}

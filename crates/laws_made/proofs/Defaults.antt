@@ -14,12 +14,11 @@ use Rattle.lq_base.specs.declared.kind.Kind.{Kind}
 use Rattle.lq_base.specs.declared.kind.Kind.TheVariants as kind
 use Rattle.lq_base.specs.declared.value.Value.{Value}
 use Rattle.lq_base.specs.declared.value.Value.TheVariants as value
-use Rattle.lq_model.specs.Literals.{column_of as made_of, value_in}
+use Rattle.lq_model.specs.Kinds.{column_of as made_of, value_in}
 use Rattle.lq_model.specs.declared.column.Column.{Column}
 use Rattle.lq_tree.specs.Values.{literal_of}
 use Rattle.lq_tables.specs.CreateTable.{def_of}
-use Rattle.laws_made.specs.CreatedAs.{column_of, given_of}
-use Rattle.laws_made.specs.Written.{IsWritten}
+use Rattle.laws_made.specs.CreatedAs.{column_of, given_of, IsWritten}
 
 clash : true ≡ false → ⊥
 clash e = Prim.cc

@@ -11,12 +11,10 @@ use Rattle.lq_kinds.specs.AnyChange.{effect, gives, inverse, is_fresh}
 use Rattle.lq_kinds.specs.declared.any_change.AnyChange.{AnyChange}
 use Rattle.lq_model.proofs.Decide.{accepted}
 use Rattle.lq_model.proofs.Lists.{and_left, and_right, and_true, true_false}
-use Rattle.lq_model.specs.Catalogue.{Catalogue, Table, View, no_objects, the_table}
+use Rattle.lq_model.specs.Catalogue.{Catalogue, Table, View, no_objects, the_table, is_in, key_list, Sequence}
 use Rattle.lq_model.specs.Effect.{unless_refused}
-use Rattle.lq_model.specs.Names.{is_in}
 use Rattle.lq_model.specs.Sound.{IsSound, IsSoundTable, is_not_null}
 use Rattle.lq_model.specs.Step.{plan, run, step}
-use Rattle.lq_model.specs.TableNames.{key_list}
 use Rattle.lq_model.specs.TakesBack.{is_firm}
 use Rattle.lq_model.specs.declared.caller.By.TheVariants.{User}
 use Rattle.lq_model.specs.declared.column.Column.{Column}
@@ -24,7 +22,6 @@ use Rattle.lq_model.specs.declared.constraint.ForeignKey.{ForeignKey}
 use Rattle.lq_model.specs.declared.constraint.Key.{Key}
 use Rattle.lq_model.specs.declared.statement.Statement.{Statement}
 use Rattle.lq_model.specs.declared.statement.Statement.TheVariants as statement
-use Rattle.lq_model.specs.Catalogue.{Sequence}
 use Rattle.lq_model.specs.declared.constraint.Unique.{Unique}
 use Rattle.lq_model.specs.declared.index.Index.{Index}
 use Rattle.lq_keys.specs.AddForeignKey.{foreign_of}
@@ -33,11 +30,9 @@ use Rattle.lq_uniques.specs.AddUnique.{unique_of}
 use Rattle.lq_keys.specs.CreateIndex.{index_of}
 use Rattle.lq_tables.specs.CreateTable.{creates}
 use Rattle.lq_views.specs.CreateView.{query}
-use Rattle.laws_made.specs.AddedAs.{foreign_change, index_change, key_change, unique_change, view_change}
-use Rattle.laws_made.specs.CreatedAs.{created}
+use Rattle.laws_made.specs.CreatedAs.{foreign_change, index_change, key_change, unique_change, view_change, created, all_changes, of_aims, of_filling, of_foreign, of_index, of_key, of_own_key, of_sequence, of_table, of_unique, of_view}
 use Rattle.lq_seen.specs.View.{any_meaning}
-use Rattle.lq_turns.specs.Effects.{all_fresh, effects, inverses, not_fresh}
-use Rattle.laws_made.specs.Changes.{all_changes, of_aims, of_filling, of_foreign, of_index, of_key, of_own_key, of_sequence, of_table, of_unique, of_view}
+use Rattle.lq_turns.specs.Set.{all_fresh, effects, inverses, not_fresh}
 use Rattle.laws_made.proofs.Whole.{MayMake, statements, whole_run}
 use Rattle.laws_stages.specs.Making.{full, on}
 

@@ -9,18 +9,16 @@ use Rattle.lq_base.specs.declared.reason.Reason.{Reason}
 use Rattle.lq_kinds.specs.AnyChange.{effect, gives, is_fresh}
 use Rattle.lq_kinds.specs.declared.any_change.AnyChange.{AnyChange}
 use Rattle.lq_model.proofs.Lists.{and_left, and_right, and_true}
-use Rattle.lq_model.specs.Catalogue.{Catalogue, Table, no_objects, the_table}
-use Rattle.lq_model.specs.Names.{is_in}
+use Rattle.lq_model.specs.Catalogue.{Catalogue, Table, no_objects, the_table, is_in, key_list}
 use Rattle.lq_model.specs.Sound.{IsSound, IsSoundTable, is_not_null}
 use Rattle.lq_model.specs.Step.{run}
-use Rattle.lq_model.specs.TableNames.{key_list}
 use Rattle.lq_model.specs.TakesBack.{is_firm}
 use Rattle.lq_model.specs.declared.caller.By.TheVariants.{User}
 use Rattle.lq_model.specs.declared.column.Column.{Column}
 use Rattle.lq_model.specs.declared.constraint.Key.{Key}
 use Rattle.lq_seen.specs.View.{any_meaning}
-use Rattle.lq_turns.specs.Effects.{all_fresh, effects}
-use Rattle.laws_made.specs.Changes.{all_changes, of_aims, of_filling, of_foreign, of_index, of_key, of_own_key, of_sequence, of_table, of_unique, of_view}
+use Rattle.lq_turns.specs.Set.{all_fresh, effects}
+use Rattle.laws_made.specs.CreatedAs.{all_changes, of_aims, of_filling, of_foreign, of_index, of_key, of_own_key, of_sequence, of_table, of_unique, of_view}
 use Rattle.laws_made.proofs.Effects.{IsPlain, both_of, each_of, effects_are, filled_plain, lists_of, plain_foreign, plain_own_key, plain_sequence, plain_table, plain_view}
 use Rattle.laws_stages.proofs.Filled.{keyed_part, made_part, weave}
 use Rattle.laws_stages.proofs.Loops.{between, filling_run, key_run, moved}

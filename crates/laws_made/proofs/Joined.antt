@@ -11,17 +11,15 @@ use Rattle.lq_base.specs.declared.name.Name.{Name}
 use Rattle.lq_base.specs.declared.value.Value.{Value}
 use Rattle.lq_model.proofs.Lists.{and_left, and_right, or_false, or_left, or_right}
 use Rattle.lq_model.proofs.Untouched.{same_list}
-use Rattle.lq_model.specs.Catalogue.{Catalogue, Table, table_of}
-use Rattle.lq_model.specs.CreateTable.{depends_in, key_column, new_table}
-use Rattle.lq_model.specs.Literals.{column_of as column_made, value_in}
+use Rattle.lq_model.specs.Catalogue.{Catalogue, Table, table_of, same_names, constraint_names, inner_names, key_list, placed}
+use Rattle.lq_model.specs.Tables.{depends_in, key_column, new_table}
+use Rattle.lq_model.specs.Kinds.{column_of as column_made, value_in}
 use Rattle.lq_tree.specs.Values.{literal_of as given_literal}
 use Rattle.lq_tables.specs.Constraints.{foreign_stated, unique_stated}
 use Rattle.lq_tables.specs.declared.create_table.CreatedConstraints.{CreatedConstraints}
-use Rattle.lq_model.specs.Names.{same_names}
-use Rattle.lq_model.specs.Reserved.{is_reserved, takes_lock_key}
+use Rattle.lq_model.specs.NameSpaces.{is_reserved, takes_lock_key}
 use Rattle.lq_model.specs.Sound.{IsSound, IsSoundTable, default_fits, is_key_of, is_not_null, is_numbered_well}
 use Rattle.lq_model.specs.Step.{run, step}
-use Rattle.lq_model.specs.TableNames.{constraint_names, inner_names, key_list, placed}
 use Rattle.lq_model.specs.declared.caller.By.TheVariants.{User}
 use Rattle.lq_model.specs.declared.column.Column.{Column}
 use Rattle.lq_model.specs.declared.column.ColumnDef.{ColumnDef}
@@ -31,8 +29,7 @@ use Rattle.lq_model.specs.declared.constraint.Unique.{Unique}
 use Rattle.lq_model.specs.declared.statement.Statement.{Statement}
 use Rattle.lq_model.specs.declared.statement.Statement.TheVariants.{CreateTable}
 use Rattle.lq_tables.specs.CreateTable.{creates, def_of, foreign_of, unique_of}
-use Rattle.laws_made.specs.CreatedAs.{column_of, constraints_of, created, given_of}
-use Rattle.laws_made.specs.Written.{IsWritten}
+use Rattle.laws_made.specs.CreatedAs.{column_of, constraints_of, created, given_of, IsWritten}
 use Rattle.laws_made.proofs.Defaults.{same_column, same_value}
 use Rattle.laws_made.proofs.KeyMade.{key_made, only_name}
 use Rattle.laws_stages.proofs.Loops.{listed_run}

@@ -8,12 +8,9 @@ use Rattle.lq_base.specs.declared.dialect.Dialect.{Dialect}
 use Rattle.lq_base.specs.declared.dialect.Dialect.TheVariants.{Mysql, Postgresql}
 use Rattle.lq_base.specs.declared.name.Name.{Name}
 use Rattle.lq_model.proofs.Lists.{and_left, and_right, named_itself, or_left, or_right, same_name, true_false}
-use Rattle.lq_model.specs.Catalogue.{Table}
-use Rattle.lq_model.specs.DefaultName.{key_name}
+use Rattle.lq_model.specs.Catalogue.{Table, is_in, repeats, same_names, key_list}
+use Rattle.lq_model.specs.Sound.{key_name, is_key_name, is_key_of, is_numbered_well, primary}
 use Rattle.lq_model.specs.Kinds.{is_number}
-use Rattle.lq_model.specs.Names.{is_in, repeats, same_names}
-use Rattle.lq_model.specs.Sound.{is_key_name, is_key_of, is_numbered_well, primary}
-use Rattle.lq_model.specs.TableNames.{key_list}
 use Rattle.lq_model.specs.declared.column.Column.{Column}
 use Rattle.lq_model.specs.declared.constraint.Key.{Key}
 use Rattle.lq_tables.specs.CreateTable.{first_name, is_in_key, key_column_of, key_columns, key_named, key_of, key_with, stated_name}

@@ -13,19 +13,16 @@ use Rattle.lq_base.specs.declared.reason.Reason.{Reason}
 use Rattle.lq_base.specs.declared.value.Value.{Value}
 use Rattle.lq_base.specs.declared.value.Value.TheVariants as value
 use Rattle.lq_model.proofs.Lists.{and_left, and_right, or_false}
-use Rattle.lq_model.specs.Catalogue.{Table}
-use Rattle.lq_model.specs.CreateTable.{depends_in, numbers_wrongly, repeats_number}
-use Rattle.lq_model.specs.Kinds.{is_number}
-use Rattle.lq_model.specs.Names.{repeats}
-use Rattle.lq_model.specs.Literals.{is_wide, is_wrong, literal_of}
+use Rattle.lq_model.specs.Catalogue.{Table, repeats}
+use Rattle.lq_model.specs.Tables.{depends_in, numbers_wrongly, repeats_number}
+use Rattle.lq_model.specs.Kinds.{is_number, is_wide, is_wrong, literal_of}
 use Rattle.lq_model.specs.Sound.{default_fits, is_key_of, is_numbered_well}
 use Rattle.lq_model.specs.declared.column.Column.{Column}
 use Rattle.lq_model.specs.declared.column.ColumnDef.{ColumnDef}
 use Rattle.lq_model.specs.declared.constraint.Key.{Key}
 use Rattle.lq_tree.specs.Values.{literal_of as stated}
 use Rattle.lq_tables.specs.CreateTable.{def_of}
-use Rattle.laws_made.specs.CreatedAs.{column_of, given_of}
-use Rattle.laws_made.specs.Written.{IsWritten}
+use Rattle.laws_made.specs.CreatedAs.{column_of, given_of, IsWritten}
 use Rattle.laws_made.proofs.Defaults.{goes}
 use Rattle.laws_stages.proofs.OneNumber.{one_number}
 

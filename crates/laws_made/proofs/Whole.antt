@@ -8,18 +8,15 @@ use Rattle.lq_base.specs.declared.dialect.Dialect.TheVariants.{Mysql, Postgresql
 use Rattle.lq_base.specs.declared.name.Name.{Name}
 use Rattle.lq_primary_keys.specs.AddPrimaryKey.{key_of}
 use Rattle.lq_keys.specs.CreateIndex.{index_of}
-use Rattle.lq_keys.specs.IndexColumn.{names_of}
-use Rattle.lq_keys.specs.OnDelete.{cascades}
+use Rattle.lq_keys.specs.OnDelete.{names_of, cascades}
 use Rattle.lq_kinds.specs.AnyChange.{gives}
 use Rattle.lq_kinds.specs.declared.any_change.AnyChange.{AnyChange}
 use Rattle.lq_model.proofs.Lists.{and_left, same_name}
-use Rattle.lq_model.specs.Catalogue.{Catalogue, Sequence, Table, View, no_objects, table_of}
-use Rattle.lq_model.specs.DefaultName.{key_name}
-use Rattle.lq_model.specs.Reserved.{is_reserved, takes_lock_key}
-use Rattle.lq_model.specs.Sound.{IsSound, IsSoundTable, is_key_name, primary}
+use Rattle.lq_model.specs.Catalogue.{Catalogue, Sequence, Table, View, no_objects, table_of, key_list}
+use Rattle.lq_model.specs.Sound.{key_name, IsSound, IsSoundTable, is_key_name, primary}
+use Rattle.lq_model.specs.NameSpaces.{is_reserved, takes_lock_key}
 use Rattle.lq_model.specs.SqlText.{query_in}
 use Rattle.lq_model.specs.Step.{run}
-use Rattle.lq_model.specs.TableNames.{key_list}
 use Rattle.lq_model.specs.TestText.{query_text}
 use Rattle.lq_model.specs.declared.caller.By.TheVariants.{User}
 use Rattle.lq_model.specs.declared.column.Column.{Column}
@@ -31,10 +28,8 @@ use Rattle.lq_model.specs.declared.query.Query.{Query}
 use Rattle.lq_model.specs.declared.query.Wanted.TheVariants as wanted
 use Rattle.lq_model.specs.declared.statement.Statement.{Statement}
 use Rattle.lq_model.specs.declared.statement.Statement.TheVariants.{AddForeignKey, AddPrimaryKey, AddUnique, CreateIndex, CreateView}
-use Rattle.laws_made.specs.AddedAs.{cascade_if, foreign_change, index_change, index_column_of, key_change}
-use Rattle.laws_made.specs.Changes.{all_changes, of_aims, of_filling, of_foreign, of_index, of_key, of_own_key, of_sequence, of_table, of_unique, of_view}
+use Rattle.laws_made.specs.CreatedAs.{cascade_if, foreign_change, index_change, index_column_of, key_change, all_changes, of_aims, of_filling, of_foreign, of_index, of_key, of_own_key, of_sequence, of_table, of_unique, of_view, so_if}
 use Rattle.lq_generate.specs.Created.{named_in}
-use Rattle.laws_made.specs.CreatedAs.{so_if}
 use Rattle.laws_stages.proofs.Ends.{sequenced, sequences_run, viewed, views_run}
 use Rattle.laws_stages.proofs.Filled.{keyed_part, made_part}
 use Rattle.laws_made.proofs.Joined.{IsFreeTable, makes_table, second_run, statement_is}

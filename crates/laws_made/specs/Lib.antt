@@ -1,4 +1,1 @@
-pub mod AddedAs
-pub mod Changes
 pub mod CreatedAs
-pub mod Written

@@ -14,12 +14,10 @@ use Rattle.lq_model.proofs.Effects.{Both, Ran, goes_on, ok_same, one_back, one_r
 use Rattle.lq_model.proofs.Lists.{all-append_left, all-append_right, and_right}
 use Rattle.lq_model.proofs.UndoConstraints.{drop_after_foreign_key, drop_after_unique}
 use Rattle.lq_model.proofs.UndoMysql.{drop_foreign_key_after, drop_unique_after}
-use Rattle.lq_model.specs.Catalogue.{Catalogue}
-use Rattle.lq_model.specs.Reserved.{is_reserved}
+use Rattle.lq_model.specs.Catalogue.{Catalogue, IsWidened}
+use Rattle.lq_model.specs.NameSpaces.{is_reserved}
 use Rattle.lq_model.specs.Sound.{IsSound}
-use Rattle.lq_model.specs.Statement.{is_statement}
-use Rattle.lq_model.specs.Step.{plan, run, step}
-use Rattle.lq_model.specs.Widened.{IsWidened}
+use Rattle.lq_model.specs.Step.{is_statement, plan, run, step}
 use Rattle.lq_model.specs.declared.caller.By.TheVariants.{User}
 use Rattle.lq_model.specs.declared.constraint.ForeignKey.{ForeignKey}
 use Rattle.lq_model.specs.declared.constraint.Unique.{Unique}

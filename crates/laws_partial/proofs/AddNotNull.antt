@@ -4,7 +4,7 @@ use Rattle.std.proofs.lemmas.List.{append-nil}
 use Rattle.std.specs.List.{filter, list_any}
 use Rattle.std.specs.Option.{option_map, option_to_list, unwrap_or}
 use Rattle.std.specs.Prelude.{Bool, List, None, Ok, Option, Some, [], false, is_none, not, refl, true, ℕ, ◌&&◌, ◌++◌, ◌||◌, ◌∷◌, ◌≡◌}
-use Rattle.lq_base.specs.Options.{if_there}
+use Rattle.lq_base.specs.Number.{if_there}
 use Rattle.lq_base.specs.declared.dialect.Dialect.{Dialect}
 use Rattle.lq_base.specs.declared.dialect.Dialect.TheVariants.{Mysql, Postgresql}
 use Rattle.lq_base.specs.declared.literal.Literal.TheVariants as literal
@@ -13,19 +13,15 @@ use Rattle.lq_model.proofs.Decide.{accepted, counted, here}
 use Rattle.lq_model.proofs.Effects.{Ran, one_step}
 use Rattle.lq_model.proofs.Lists.{and_left, and_right, not_false, or_left, or_right, true_false}
 use Rattle.lq_model.proofs.NoRowTaken.{update_of_none}
-use Rattle.lq_model.specs.Catalogue.{Catalogue, table_of, the_table}
-use Rattle.lq_model.specs.Look.{at_table, column_at, has_null_in}
-use Rattle.lq_model.specs.Row.{by_name, is_null}
+use Rattle.lq_model.specs.Catalogue.{Catalogue, table_of, the_table, at_table, column_at, has_null_in, by_name, is_null, has_column}
 use Rattle.lq_model.specs.Sound.{IsSound}
 use Rattle.lq_model.specs.Step.{plan, run, step}
-use Rattle.lq_model.specs.TableNames.{has_column}
 use Rattle.lq_model.specs.declared.caller.By.TheVariants.{User}
 use Rattle.lq_model.specs.declared.statement.Statement.{Statement}
 use Rattle.lq_model.specs.declared.statement.Statement.TheVariants.{Update}
 use Rattle.lq_model.specs.declared.test.Operand.TheVariants as operand
 use Rattle.lq_model.specs.declared.test.Test.{IsNull}
-use Rattle.lq_nullable.specs.AddNotNull.{effect, fills, gives, inverse, is_for, is_fresh, sets}
-use Rattle.lq_nullable.specs.AddNotNullLaws.{does, restores}
+use Rattle.lq_nullable.specs.AddNotNull.{effect, fills, gives, inverse, is_for, is_fresh, sets, does, restores}
 use Rattle.lq_nullable.specs.Nullable.{is_new, kind_stated}
 use Rattle.lq_nullable.specs.declared.add_not_null.AddNotNullConstraint.{AddNotNullConstraint}
 use Rattle.lq_reverse.proofs.Parts.{one_part}

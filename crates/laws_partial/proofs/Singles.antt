@@ -11,29 +11,29 @@ use Rattle.laws_partial.specs.Parts.{SingleParts}
 use Rattle.lq_tables.specs.CreateTable as create_table
 use Rattle.lq_tables.specs.CreateTableLaws as create_table_laws
 use Rattle.lq_tables.specs.RenameTable as rename_table
-use Rattle.lq_tables.specs.RenameTableLaws as rename_table_laws
+use Rattle.lq_tables.specs.RenameTable as rename_table_laws
 use Rattle.lq_rename_column.specs.RenameColumn as rename_column
-use Rattle.lq_rename_column.specs.RenameColumnLaws as rename_column_laws
+use Rattle.lq_rename_column.specs.RenameColumn as rename_column_laws
 use Rattle.lq_nullable.specs.DropNotNull as drop_not_null
-use Rattle.lq_nullable.specs.DropNotNullLaws as drop_not_null_laws
+use Rattle.lq_nullable.specs.DropNotNull as drop_not_null_laws
 use Rattle.lq_columns.specs.AddDefaultValue as add_default_value
-use Rattle.lq_columns.specs.AddDefaultValueLaws as add_default_value_laws
+use Rattle.lq_columns.specs.AddDefaultValue as add_default_value_laws
 use Rattle.lq_primary_keys.specs.AddPrimaryKey as add_primary_key
-use Rattle.lq_primary_keys.specs.AddPrimaryKeyLaws as add_primary_key_laws
+use Rattle.lq_primary_keys.specs.AddPrimaryKey as add_primary_key_laws
 use Rattle.lq_uniques.specs.AddUnique as add_unique
-use Rattle.lq_uniques.specs.AddUniqueLaws as add_unique_laws
+use Rattle.lq_uniques.specs.AddUnique as add_unique_laws
 use Rattle.lq_keys.specs.AddForeignKey as add_foreign_key
-use Rattle.lq_keys.specs.AddForeignKeyLaws as add_foreign_key_laws
+use Rattle.lq_keys.specs.AddForeignKey as add_foreign_key_laws
 use Rattle.lq_keys.specs.CreateIndex as create_index
-use Rattle.lq_keys.specs.CreateIndexLaws as create_index_laws
+use Rattle.lq_keys.specs.CreateIndex as create_index_laws
 use Rattle.lq_views.specs.CreateView as create_view
-use Rattle.lq_views.specs.CreateViewLaws as create_view_laws
+use Rattle.lq_views.specs.CreateView as create_view_laws
 use Rattle.lq_views.specs.RenameView as rename_view
-use Rattle.lq_views.specs.RenameViewLaws as rename_view_laws
+use Rattle.lq_views.specs.RenameView as rename_view_laws
 use Rattle.lq_views.specs.CreateSequence as create_sequence
-use Rattle.lq_views.specs.CreateSequenceLaws as create_sequence_laws
+use Rattle.lq_views.specs.CreateSequence as create_sequence_laws
 use Rattle.lq_views.specs.RenameSequence as rename_sequence
-use Rattle.lq_views.specs.RenameSequenceLaws as rename_sequence_laws
+use Rattle.lq_views.specs.RenameSequence as rename_sequence_laws
 use Rattle.lq_tables.specs.declared.create_table.CreateTable.{CreateTable}
 use Rattle.lq_tables.specs.declared.rename_table.RenameTable.{RenameTable}
 use Rattle.lq_rename_column.specs.declared.rename_column.RenameColumn.{RenameColumn}

@@ -1,20 +1,38 @@
--- That a part of a change is taken back.
-use Rattle.lq_nullable.specs.AddNotNull as not_null
-use Rattle.lq_tables.specs.CreateTable as create_table
-use Rattle.lq_tables.specs.RenameTable as rename_table
-use Rattle.lq_rename_column.specs.RenameColumn as rename_column
-use Rattle.lq_nullable.specs.DropNotNull as drop_not_null
+-- A column that was added, and then made NOT NULL, is made nullable again, and what there is has one column more still.
+use Rattle.std.specs.Prelude.{Ok, false, true, ℕ, ◌≡◌}
+use Rattle.lq_base.specs.declared.dialect.Dialect.{Dialect}
+use Rattle.lq_base.specs.declared.kind.Kind.{Kind}
+use Rattle.lq_base.specs.declared.name.Name.{Name}
 use Rattle.lq_columns.specs.AddDefaultValue as add_default_value
-use Rattle.lq_primary_keys.specs.AddPrimaryKey as add_primary_key
-use Rattle.lq_uniques.specs.AddUnique as add_unique
 use Rattle.lq_keys.specs.AddForeignKey as add_foreign_key
 use Rattle.lq_keys.specs.CreateIndex as create_index
-use Rattle.lq_views.specs.CreateView as create_view
-use Rattle.lq_views.specs.RenameView as rename_view
-use Rattle.lq_views.specs.CreateSequence as create_sequence
-use Rattle.lq_views.specs.RenameSequence as rename_sequence
+use Rattle.lq_model.specs.Catalogue.{Catalogue, IsWidened}
+use Rattle.lq_model.specs.Sound.{IsSound}
+use Rattle.lq_model.specs.Step.{step}
+use Rattle.lq_model.specs.declared.caller.By.{By}
+use Rattle.lq_model.specs.declared.statement.Statement.TheVariants.{DropNotNull, Modify, SetNotNull}
+use Rattle.lq_nullable.specs.AddNotNull as not_null
+use Rattle.lq_nullable.specs.DropNotNull as drop_not_null
+use Rattle.lq_primary_keys.specs.AddPrimaryKey as add_primary_key
+use Rattle.lq_rename_column.specs.RenameColumn as rename_column
 use Rattle.lq_reverse.specs.Back.{PartsBack}
 use Rattle.lq_tables.specs.AddColumn as column
+use Rattle.lq_tables.specs.CreateTable as create_table
+use Rattle.lq_tables.specs.RenameTable as rename_table
+use Rattle.lq_uniques.specs.AddUnique as add_unique
+use Rattle.lq_views.specs.CreateSequence as create_sequence
+use Rattle.lq_views.specs.CreateView as create_view
+use Rattle.lq_views.specs.RenameSequence as rename_sequence
+use Rattle.lq_views.specs.RenameView as rename_view
+
+abbrev pub ColumnsAreLoosened : Type 0
+ColumnsAreLoosened =
+    ((by : By) (d : Dialect) (t n : Name) (c m p : Catalogue) (k : ℕ) → IsSound d c → IsSound d p → IsWidened t n c m → step by d (SetNotNull t n) m ≡ Ok (p, k)
+    → (q : Catalogue) × (step by d (DropNotNull t n) p ≡ Ok (q, 0)) × IsWidened t n c q)
+    × ((by : By) (d : Dialect) (t n : Name) (kind : Kind) (c m p : Catalogue) (k : ℕ) → IsSound d c → IsSound d p → IsWidened t n c m → step by d (Modify t n kind false) m ≡ Ok (p, k)
+    → (q : Catalogue) × (step by d (Modify t n kind true) p ≡ Ok (q, 0)) × IsWidened t n c q)
+
+-- That a part of a change is taken back.
 
 abbrev pub AddColumnParts : Type 0
 AddColumnParts = PartsBack column.is_for column.gives column.is_fresh column.inverse

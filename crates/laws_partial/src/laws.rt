@@ -1,7 +1,6 @@
 //! What holds of a part of a change. The functions are empty: their contracts are the laws.
 
-ghost use Rattle.laws_partial.specs.Loosened.{ColumnsAreLoosened};
-ghost use Rattle.laws_partial.specs.Parts.{AddColumnParts, AddNotNullParts, SingleParts};
+ghost use Rattle.laws_partial.specs.Parts.{ColumnsAreLoosened, AddColumnParts, AddNotNullParts, SingleParts};
 
 /// A column that was added and then made NOT NULL is made nullable again, and stays the last of its
 /// table.

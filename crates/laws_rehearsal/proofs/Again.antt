@@ -8,11 +8,11 @@ use Rattle.lq_base.specs.declared.dialect.Dialect.{Dialect}
 use Rattle.lq_base.specs.declared.tracking.Tracked.{Tracked}
 use Rattle.lq_model.specs.Sound.{IsSound}
 use Rattle.lq_track.specs.Database.{Database, SameDatabase, has_twin_rows}
-use Rattle.lq_turns.specs.Contents.{Contents, contents_of}
-use Rattle.lq_turns.specs.First.{runs_of}
+use Rattle.lq_turns.specs.Deed.{Contents, contents_of}
+use Rattle.lq_turns.specs.Within.{runs_of}
 use Rattle.lq_turns.specs.Laws.{at_rest, rollback_calls}
 use Rattle.lq_turns.specs.Ran.{AreRowsOf, RanSince, Run}
-use Rattle.lq_turns.specs.Rollback.{all_rolled, rolled_as, rows_kept, undo_turns}
+use Rattle.lq_turns.specs.Script.{all_rolled, rolled_as, rows_kept, undo_turns}
 use Rattle.lq_turns.specs.Session.{left_by}
 use Rattle.lq_turns.specs.Set.{IsKept, Meaning}
 use Rattle.lq_turns.specs.Settle.{Settled, all_settled, by_own, is_halt, own_choice, unless_stopped, updated}

@@ -5,16 +5,15 @@ use Rattle.lq_base.specs.declared.dialect.Dialect.{Dialect}
 use Rattle.lq_model.specs.Sound.{IsSound}
 use Rattle.lq_track.specs.Database.{Database, SameDatabase, has_twin_rows}
 use Rattle.lq_track.specs.Lock.{free}
-use Rattle.lq_turns.specs.Contents.{contents_of}
-use Rattle.lq_turns.specs.First.{are_first, runs_of}
+use Rattle.lq_turns.specs.Deed.{contents_of}
 use Rattle.lq_turns.specs.Laws.{AreKnown, AreRead}
 use Rattle.lq_turns.specs.Ran.{are_reversible}
-use Rattle.lq_turns.specs.Rollback.{all_rolled, rows_undone, undo_turns}
-use Rattle.lq_turns.specs.Script.{update_calls}
+use Rattle.lq_turns.specs.Script.{all_rolled, rows_undone, undo_turns, update_calls}
 use Rattle.lq_turns.specs.Session.{left_by}
 use Rattle.lq_turns.specs.Set.{Changelog, Meaning}
 use Rattle.lq_turns.specs.Settle.{all_settled, is_halt, own_choice}
 use Rattle.lq_turns.specs.Trails.{rollback_to}
+use Rattle.lq_turns.specs.Within.{are_first, runs_of}
 use Rattle.lq_turns.specs.declared.stamp.Stamp.{Stamp}
 use Rattle.lq_turns.specs.declared.turn.Turn.{Turn}
 

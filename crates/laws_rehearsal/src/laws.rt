@@ -1,7 +1,7 @@
 //! What holds of a rehearsal. The functions are empty: their contracts are the laws.
 
 ghost use Rattle.laws_rehearsal.specs.Rehearsed.{RehearsalReturns};
-ghost use Rattle.lq_turns.specs.Promised.{meaning};
+ghost use Rattle.lq_turns.specs.Set.{meaning};
 
 use lq_model::Change;
 

@@ -3,7 +3,7 @@ use Rattle.std.specs.List.{last_or}
 use Rattle.std.proofs.Common.{ap, sym, ◌∙◌}
 use Rattle.std.specs.Option.{option_map}
 use Rattle.std.specs.Prelude.{Bool, Err, List, None, Ok, Option, Result, Some, [], false, length, map, refl, true, ℕ, ◌++◌, ◌∷◌, ◌≡◌}
-use Rattle.lq_base.specs.Text.{is_text}
+use Rattle.lq_base.specs.Name.{is_text}
 use Rattle.lq_base.specs.declared.dialect.Dialect.{Dialect}
 use Rattle.lq_base.specs.declared.literal.Literal.{Literal}
 use Rattle.lq_base.specs.declared.literal.Literal.TheVariants as literal
@@ -18,8 +18,7 @@ use Rattle.lq_track.specs.Database.{Database}
 use Rattle.lq_track.specs.Lock.{lock_table}
 use Rattle.lq_track.specs.Log.{log_table}
 use Rattle.lq_track.specs.Statements.{lock_marked}
-use Rattle.lq_turns.specs.Contents.{Contents, contents_of, with_contents}
-use Rattle.lq_turns.specs.Deed.{all_done, contents_after, if_accepted, lock_statement, locked_after, made_of, row_statement}
+use Rattle.lq_turns.specs.Deed.{Contents, contents_of, with_contents, all_done, contents_after, if_accepted, lock_statement, locked_after, made_of, row_statement}
 use Rattle.lq_turns.specs.Stops.{Journal, joined}
 use Rattle.lq_turns.specs.Within.{marks_last}
 use Rattle.lq_turns.specs.declared.deed.Deed.{Deed}
@@ -29,7 +28,7 @@ use Rattle.lq_turns.specs.declared.deed.OnLock.TheVariants as on_lock
 use Rattle.lq_turns.specs.declared.deed.OnRows.{OnRows}
 use Rattle.lq_turns.specs.declared.deed.OnRows.TheVariants.{Cleared, Deleted, Filled, Inserted, Renewed, Tagged}
 use Rattle.lq_turns.proofs.Marks.{last_or_both}
-use Rattle.laws_repair.specs.LastText.{AreReadBack, IsReadBack, LastTextTells, is_mark_text, last_text, text_by}
+use Rattle.laws_repair.specs.Repair.{AreReadBack, IsReadBack, LastTextTells, is_mark_text, last_text, text_by}
 
 abbrev table_in : Statement → Name
 table_in (Update t sets test) = t

@@ -3,8 +3,7 @@ use Rattle.std.proofs.Common.{ap, arith, inl, inr, subst, sym, ◌∙◌}
 use Rattle.std.proofs.lemmas.Bool.Decides.{nat_tests}
 use Rattle.std.specs.List.{filter, last_or, list_all, list_any}
 use Rattle.std.specs.Prelude.{Bool, List, None, Ok, Option, Result, Some, [], codes, false, if◌then◌else◌, is_none, is_some, length, nat_lt, not, pos, refl, suc, take, true, ℕ, ◌<◌, ◌==◌, ◌^◌, ◌&&◌, ◌++◌, ◌||◌, ◌∷◌, ◌≡◌, ◌⊎◌}
-use Rattle.lq_base.specs.Text.{is_text}
-use Rattle.lq_base.specs.Tracking.{identity_text}
+use Rattle.lq_base.specs.Name.{is_text, identity_text}
 use Rattle.lq_base.specs.declared.dialect.Dialect.TheVariants.{Mysql}
 use Rattle.lq_base.specs.declared.reason.Reason.{Reason}
 use Rattle.lq_base.specs.declared.run.Did.{Did}
@@ -19,19 +18,15 @@ use Rattle.lq_reverse.specs.Back.{PartsBack}
 use Rattle.lq_track.specs.Database.{Database}
 use Rattle.lq_track.specs.Lock.{free, taken}
 use Rattle.lq_turns.proofs.Marks.{last_or_both}
-use Rattle.lq_turns.specs.Again.{are_twins, has_own_sum}
-use Rattle.lq_turns.specs.Contents.{Contents, contents_of, with_contents}
-use Rattle.lq_turns.specs.Deed.{all_done, lock_after}
-use Rattle.lq_turns.specs.Effects.{all_fresh, inverses, not_fresh, statements_of}
-use Rattle.lq_turns.specs.First.{holds_unless, keeps_nothing, keeps_nothing_by}
+use Rattle.lq_turns.specs.Stops.{are_twins, has_own_sum, IsLeft, IsSteady, Journal, has_mark, is_mark, is_skip, joined}
+use Rattle.lq_turns.specs.Deed.{Contents, contents_of, with_contents, all_done, lock_after}
+use Rattle.lq_turns.specs.Set.{all_fresh, inverses, not_fresh, statements_of, Changelog, IsKept, Meaning, Set, has_row}
+use Rattle.lq_turns.specs.Within.{holds_unless, keeps_nothing, keeps_nothing_by, IsBetween, IsWithin, UpdateFront, UpdateStands, gives_way, is_refused, is_turn_refused, marks_last, none_gives_way}
 use Rattle.lq_turns.specs.Laws.{AreRead, IsAtRest}
 use Rattle.lq_turns.specs.Script.{closing, has_work, release_calls, turn_by, update_calls}
 use Rattle.lq_turns.specs.Session.{all_called, left_by, session_on}
-use Rattle.lq_turns.specs.Set.{Changelog, IsKept, Meaning, Set, has_row}
 use Rattle.lq_turns.specs.Settle.{Settled, all_settled, by_own, choice, choice_of, did_of, fill_turn, followed, is_halt, mark_turn, run_ending, run_turn, settle, settled_as, settled_by, tested, updated, what}
-use Rattle.lq_turns.specs.Stops.{IsLeft, IsSteady, Journal, has_mark, is_mark, is_skip, joined}
 use Rattle.lq_turns.specs.Turn.{Ending, Finished, Refused, contents_in, course, ending}
-use Rattle.lq_turns.specs.Within.{IsBetween, IsWithin, UpdateFront, UpdateStands, gives_way, is_refused, is_turn_refused, marks_last, none_gives_way}
 use Rattle.lq_turns.specs.declared.choice.Choice.{Choice}
 use Rattle.lq_turns.specs.declared.choice.Choice.TheVariants.{Fills, Halts, Marks, Passes, Runs, Skips}
 use Rattle.lq_turns.specs.declared.choice.What.{What}
@@ -50,8 +45,7 @@ use Rattle.lq_turns.proofs.Locked.{entries_leave, led_both}
 use Rattle.lq_turns.proofs.Stands.{update_fronts}
 use Rattle.lq_turns.proofs.Stays.{IsCalm, all_sound, stays_calm}
 use Rattle.lq_turns.proofs.Updates.{rests_on, run_is, stopped_is, update_rests}
-use Rattle.laws_repair.specs.Mended.{AreMended, Mark, MendsAt, UpdateMends, all_fit, by_of, fits, is_first_time, is_named_so, marked_set, the_only}
-use Rattle.laws_repair.specs.Repair.{IsPartly, IsWhole, RunsFirst, marked_text, repair_calls, standing}
+use Rattle.laws_repair.specs.Repair.{AreMended, Mark, MendsAt, UpdateMends, all_fit, by_of, fits, is_first_time, is_named_so, marked_set, the_only, IsPartly, IsWhole, RunsFirst, marked_text, repair_calls, standing}
 use Rattle.laws_repair.proofs.Marked.{is_read, no_mark_plain, parts_told, text_of}
 use Rattle.laws_repair.proofs.Repaired.{repair_leaves}
 use Rattle.laws_repair.proofs.Through.{holds_through, idle, through_kept, through_rest}

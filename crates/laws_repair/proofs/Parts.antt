@@ -14,8 +14,7 @@ use Rattle.lq_model.specs.declared.caller.By.TheVariants.{User}
 use Rattle.lq_model.specs.declared.statement.Statement.{Statement}
 use Rattle.lq_reverse.proofs.Parts.{Before, Behind, Cut, cut, no_part, part_both}
 use Rattle.lq_reverse.specs.Back.{PartsBack, backs}
-use Rattle.lq_turns.specs.Effects.{all_fresh, inverses, statements_of}
-use Rattle.lq_turns.specs.Set.{IsKept, Meaning}
+use Rattle.lq_turns.specs.Set.{all_fresh, inverses, statements_of, IsKept, Meaning}
 use Rattle.laws_repair.specs.Repair.{PartsReturn}
 
 -- both have what takes them back

@@ -12,16 +12,14 @@ use Rattle.lq_base.specs.declared.tracking.Lock.{Lock}
 use Rattle.lq_model.proofs.Effects.{Ran, ran_first}
 use Rattle.lq_model.proofs.Lists.{named_itself}
 use Rattle.lq_model.specs.Catalogue.{Catalogue}
-use Rattle.lq_model.specs.Commits.{commits_itself}
-use Rattle.lq_model.specs.Step.{run, step}
+use Rattle.lq_model.specs.Step.{commits_itself, run, step}
 use Rattle.lq_model.specs.declared.caller.By.TheVariants.{User}
 use Rattle.lq_model.specs.declared.statement.Statement.{Statement}
 use Rattle.lq_reverse.proofs.Parts.{backs_both}
 use Rattle.lq_reverse.specs.Back.{back, backs}
 use Rattle.lq_track.specs.Database.{Database}
 use Rattle.lq_track.specs.Lock.{free, taken}
-use Rattle.lq_turns.specs.Contents.{Contents, contents_of, with_contents}
-use Rattle.lq_turns.specs.Deed.{all_done, contents_after, if_accepted, lock_after, locked_after}
+use Rattle.lq_turns.specs.Deed.{Contents, contents_of, with_contents, all_done, contents_after, if_accepted, lock_after, locked_after}
 use Rattle.lq_turns.specs.Script.{closing}
 use Rattle.lq_turns.specs.Session.{Session, all_called, all_executed, closed, is_own, left_by, session_on, settled_if, settled_up}
 use Rattle.lq_turns.specs.Stops.{Journal, joined}

@@ -15,8 +15,7 @@ use Rattle.lq_track.specs.Lock.{free}
 use Rattle.lq_turns.proofs.Journal.{joined_any, joined_both, next, same_ok}
 use Rattle.lq_turns.proofs.Locked.{all_locks, cut, entries_leave, first_session, opened_by}
 use Rattle.lq_turns.proofs.Updates.{locked_leaves, sets_taken}
-use Rattle.lq_turns.specs.Contents.{Contents, contents_of, with_contents}
-use Rattle.lq_turns.specs.Deed.{all_done, contents_after, done, if_accepted, lock_after}
+use Rattle.lq_turns.specs.Deed.{Contents, contents_of, with_contents, all_done, contents_after, done, if_accepted, lock_after}
 use Rattle.lq_turns.specs.Laws.{AreRead}
 use Rattle.lq_turns.specs.Script.{closing, has_work, if_missing, opening, sets_calls, update_calls, with_lock}
 use Rattle.lq_turns.specs.Session.{Session, aborted, accepted, all_called, all_executed, all_executed_as, called, closed, executed, executed_as, is_own, left_by, session_on, settled_if}

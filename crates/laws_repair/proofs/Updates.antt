@@ -12,11 +12,10 @@ use Rattle.lq_model.specs.declared.statement.Statement.{Statement}
 use Rattle.lq_reverse.specs.Back.{PartsBack, backs}
 use Rattle.lq_track.specs.Database.{Database}
 use Rattle.lq_track.specs.Lock.{free}
-use Rattle.lq_turns.specs.Contents.{Contents, contents_of}
-use Rattle.lq_turns.specs.Effects.{statements_of}
+use Rattle.lq_turns.specs.Deed.{Contents, contents_of}
+use Rattle.lq_turns.specs.Set.{statements_of, IsKept, Meaning, Set}
 use Rattle.lq_turns.specs.Laws.{AreRead}
 use Rattle.lq_turns.specs.Script.{turn_by, update_calls}
-use Rattle.lq_turns.specs.Set.{IsKept, Meaning, Set}
 use Rattle.lq_turns.specs.Settle.{all_settled, choice, run_turn}
 use Rattle.lq_turns.specs.Stops.{joined}
 use Rattle.lq_turns.specs.Within.{IsBetween, IsWithin, UpdateStands, marks_last}

@@ -1,3 +1,1 @@
-pub mod LastText
-pub mod Mended
 pub mod Repair

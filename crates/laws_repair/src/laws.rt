@@ -1,9 +1,7 @@
 //! What holds of undo-unrecorded. The functions are empty: their contracts are the laws.
 
-ghost use Rattle.laws_repair.specs.LastText.{LastTextTells};
-ghost use Rattle.laws_repair.specs.Mended.{UpdateMends};
-ghost use Rattle.laws_repair.specs.Repair.{PartsReturn, RepairLeaves, RepairResumes, UpdateRepairs};
-ghost use Rattle.lq_turns.specs.Promised.{meaning};
+ghost use Rattle.laws_repair.specs.Repair.{LastTextTells, UpdateMends, PartsReturn, RepairLeaves, RepairResumes, UpdateRepairs};
+ghost use Rattle.lq_turns.specs.Set.{meaning};
 
 use lq_model::Change;
 

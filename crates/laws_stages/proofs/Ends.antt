@@ -16,21 +16,14 @@ use Rattle.lq_model.proofs.Decide.{IsSettled}
 use Rattle.lq_model.proofs.Lists.{and_left, and_right, any_same, named_itself, or_false, or_left, or_right}
 use Rattle.lq_model.proofs.Times.{none_times, times-append}
 use Rattle.lq_model.proofs.Untouched.{same_list}
-use Rattle.lq_model.specs.Catalogue.{Catalogue, Sequence, Table, View, no_table, table_of, the_table}
-use Rattle.lq_model.specs.Comparison.{compares_wrongly}
-use Rattle.lq_model.specs.NameSpaces.{AreApart, is_taken, object_names, shared_names}
-use Rattle.lq_model.specs.Names.{is_empty, is_in, repeats, same_names, times}
-use Rattle.lq_model.specs.Query.{listed}
-use Rattle.lq_model.specs.Reserved.{is_reserved, takes_lock_key}
-use Rattle.lq_model.specs.ResultTests.{has_orphan, is_full, is_loose, misses_target, table_has_null, table_has_twins, unique_lists}
-use Rattle.lq_model.specs.Row.{has_bad_null}
-use Rattle.lq_model.specs.Sequences.{create_sequence}
+use Rattle.lq_model.specs.Catalogue.{Catalogue, Sequence, Table, View, no_table, table_of, the_table, is_empty, is_in, repeats, same_names, times, has_bad_null, column_missing, column_names, has_column, target_lists}
+use Rattle.lq_model.specs.Comparison.{compares_wrongly, is_spelled}
+use Rattle.lq_model.specs.NameSpaces.{AreApart, is_taken, object_names, shared_names, is_reserved, takes_lock_key}
+use Rattle.lq_model.specs.Views.{listed, create_sequence, create_view, is_count, new_view}
+use Rattle.lq_model.specs.Plan.{has_orphan, is_full, is_loose, misses_target, table_has_null, table_has_twins, unique_lists}
 use Rattle.lq_model.specs.Sound.{IsSound, are_columns, is_view, wanted_names}
-use Rattle.lq_model.specs.Spelled.{is_spelled}
 use Rattle.lq_model.specs.Step.{run, step}
-use Rattle.lq_model.specs.TableNames.{column_missing, column_names, has_column, target_lists}
 use Rattle.lq_model.specs.Truth.{names_in}
-use Rattle.lq_model.specs.Views.{create_view, is_count, new_view}
 use Rattle.lq_model.specs.declared.caller.By.TheVariants.{User}
 use Rattle.lq_model.specs.declared.constraint.ForeignKey.{ForeignKey}
 use Rattle.lq_model.specs.declared.query.Query.{Query}

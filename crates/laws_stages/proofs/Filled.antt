@@ -14,17 +14,13 @@ use Rattle.lq_model.proofs.Lists.{all-append_left, all-append_right, and_left, a
 use Rattle.lq_model.proofs.NameCounts.{constraint_sum, foreign_at, index_sum, indexes_at, inner_sum, keys_at, last_count, uniques_at}
 use Rattle.lq_model.proofs.Places.{times_beside}
 use Rattle.lq_model.proofs.Times.{none_times, times-append}
-use Rattle.lq_model.specs.AddConstraint.{add_foreign_key, add_primary_key, add_unique, create_index, with_foreign, with_index, with_key, with_unique}
-use Rattle.lq_model.specs.Catalogue.{Catalogue, Table, table_of, the_table, with_table}
-use Rattle.lq_model.specs.CreateTable.{key_column}
-use Rattle.lq_model.specs.NameSpaces.{AreApart, AreApartWithin, all_foreign_names, index_taken, key_taken, shared_names, unique_taken}
-use Rattle.lq_model.specs.Names.{is_empty, is_in, repeats, times}
-use Rattle.lq_model.specs.Plan.{Plan, decide}
-use Rattle.lq_model.specs.Reserved.{is_reserved, takes_lock_key}
-use Rattle.lq_model.specs.ResultTests.{is_loose, misses_target}
+use Rattle.lq_model.specs.Constraints.{add_foreign_key, add_primary_key, add_unique, create_index, with_foreign, with_index, with_key, with_unique}
+use Rattle.lq_model.specs.Catalogue.{Catalogue, Table, table_of, the_table, with_table, is_empty, is_in, repeats, times, column_lists, column_missing, constraint_names, has_column, index_names, inner_names, key_list, placed, target_lists}
+use Rattle.lq_model.specs.Tables.{key_column}
+use Rattle.lq_model.specs.NameSpaces.{AreApart, AreApartWithin, all_foreign_names, index_taken, key_taken, shared_names, unique_taken, is_reserved, takes_lock_key}
+use Rattle.lq_model.specs.Plan.{Plan, decide, is_loose, misses_target}
 use Rattle.lq_model.specs.Sound.{IsSound, IsSoundTable, are_columns, is_not_null}
 use Rattle.lq_model.specs.Step.{step}
-use Rattle.lq_model.specs.TableNames.{column_lists, column_missing, constraint_names, has_column, index_names, inner_names, key_list, placed, target_lists}
 use Rattle.lq_model.specs.declared.caller.By.TheVariants.{User}
 use Rattle.lq_model.specs.declared.constraint.ForeignKey.{ForeignKey}
 use Rattle.lq_model.specs.declared.constraint.Key.{Key}

@@ -14,17 +14,14 @@ use Rattle.lq_model.proofs.Lists.{and_left, and_right, any-append, any_same, nam
 use Rattle.lq_model.proofs.NameCounts.{constraint_sum, foreign_at}
 use Rattle.lq_model.proofs.Times.{none_times}
 use Rattle.lq_model.proofs.Untouched.{same_list}
-use Rattle.lq_model.specs.AddConstraint.{add_foreign_key, with_foreign}
-use Rattle.lq_model.specs.Catalogue.{Catalogue, Table, no_table, table_of, the_table, with_table}
-use Rattle.lq_model.specs.CreateTable.{target_missing}
+use Rattle.lq_model.specs.Constraints.{add_foreign_key, with_foreign}
+use Rattle.lq_model.specs.Catalogue.{Catalogue, Table, no_table, table_of, the_table, with_table, is_in, repeats, same_names, times, column_missing, constraint_names, foreign_names, target_lists}
+use Rattle.lq_model.specs.Tables.{target_missing}
 use Rattle.lq_model.specs.Kinds.{kinds_at, kinds_differ, same_kinds}
-use Rattle.lq_model.specs.NameSpaces.{AreApart, AreApartWithin, all_foreign_names, foreign_taken}
-use Rattle.lq_model.specs.Names.{is_in, repeats, same_names, times}
-use Rattle.lq_model.specs.Reserved.{is_reserved}
-use Rattle.lq_model.specs.ResultTests.{is_loose, misses_target}
+use Rattle.lq_model.specs.NameSpaces.{AreApart, AreApartWithin, all_foreign_names, foreign_taken, is_reserved}
+use Rattle.lq_model.specs.Plan.{is_loose, misses_target}
 use Rattle.lq_model.specs.Sound.{IsSound, IsSoundTable, are_columns}
 use Rattle.lq_model.specs.Step.{step}
-use Rattle.lq_model.specs.TableNames.{column_missing, constraint_names, foreign_names, target_lists}
 use Rattle.lq_model.specs.declared.caller.By.TheVariants.{User}
 use Rattle.lq_model.specs.declared.constraint.ForeignKey.{ForeignKey}
 use Rattle.lq_model.specs.declared.index.Index.{Index}

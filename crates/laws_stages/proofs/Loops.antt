@@ -6,7 +6,7 @@ use Rattle.lq_base.specs.declared.dialect.Dialect.{Dialect}
 use Rattle.lq_base.specs.declared.name.Name.{Name}
 use Rattle.lq_base.specs.declared.reason.Reason.{Reason}
 use Rattle.lq_model.specs.Catalogue.{Catalogue, Table}
-use Rattle.lq_model.specs.Reserved.{is_reserved, takes_lock_key}
+use Rattle.lq_model.specs.NameSpaces.{is_reserved, takes_lock_key}
 use Rattle.lq_model.specs.Sound.{IsSound}
 use Rattle.lq_model.specs.Step.{run, step}
 use Rattle.lq_model.specs.declared.caller.By.TheVariants.{User}

@@ -15,13 +15,11 @@ use Rattle.lq_model.proofs.Maps.{not_some, some_same}
 use Rattle.lq_model.proofs.NameCounts.{constraint_sum, inner_sum, keys_at}
 use Rattle.lq_model.proofs.PublicNames.{public_by, schemas_fewer}
 use Rattle.lq_model.proofs.Times.{times-append}
-use Rattle.lq_model.specs.Catalogue.{Catalogue, Sequence, Table, View, table_of}
+use Rattle.lq_model.specs.Catalogue.{Catalogue, Sequence, Table, View, table_of, is_empty, times, column_lists, constraint_names, inner_names, key_list, target_lists}
 use Rattle.lq_model.specs.Kinds.{is_number, kinds_differ}
 use Rattle.lq_model.specs.NameSpaces.{AreApart, AreApartWithin, all_foreign_names, object_names, shared_names}
-use Rattle.lq_model.specs.Names.{is_empty, times}
-use Rattle.lq_model.specs.ResultTests.{has_null, has_orphan, has_orphans, has_twins, is_full, is_loose, is_overfull, misses_target, table_has_null, table_has_twins, unique_lists}
+use Rattle.lq_model.specs.Plan.{has_null, has_orphan, has_orphans, has_twins, is_full, is_loose, is_overfull, misses_target, table_has_null, table_has_twins, unique_lists}
 use Rattle.lq_model.specs.Sound.{IsSound, IsSoundTable, are_columns, is_key_name, is_key_of, is_not_null, is_numbered_well, is_unlike}
-use Rattle.lq_model.specs.TableNames.{column_lists, constraint_names, inner_names, key_list, target_lists}
 use Rattle.lq_model.specs.declared.column.Column.{Column}
 use Rattle.lq_model.specs.declared.constraint.Key.{Key}
 use Rattle.lq_model.specs.declared.constraint.Unique.{Unique}

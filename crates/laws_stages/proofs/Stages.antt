@@ -16,11 +16,9 @@ use Rattle.lq_model.proofs.Counts.{once}
 use Rattle.lq_model.proofs.NameCounts.{inner_sum}
 use Rattle.lq_model.proofs.Places.{placed_less}
 use Rattle.lq_model.proofs.Times.{none_times, times-append}
-use Rattle.lq_model.specs.Catalogue.{Catalogue, Sequence, Table, View, with_new}
+use Rattle.lq_model.specs.Catalogue.{Catalogue, Sequence, Table, View, with_new, is_in, times, inner_names, key_list, placed}
 use Rattle.lq_model.specs.NameSpaces.{names_inside, object_names, shared_names}
-use Rattle.lq_model.specs.Names.{is_in, times}
 use Rattle.lq_model.specs.Step.{run, step}
-use Rattle.lq_model.specs.TableNames.{inner_names, key_list, placed}
 use Rattle.lq_model.specs.declared.caller.By.TheVariants.{User}
 use Rattle.lq_model.specs.declared.column.Column.{Column}
 use Rattle.lq_model.specs.declared.constraint.Key.{Key}

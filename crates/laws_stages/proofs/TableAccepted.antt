@@ -14,15 +14,12 @@ use Rattle.lq_model.proofs.Decide.{accepts}
 use Rattle.lq_model.proofs.Lists.{and_left, and_right, named_itself, or_false}
 use Rattle.lq_model.proofs.NameCounts.{inner_sum}
 use Rattle.lq_model.proofs.Times.{none_times, times-append}
-use Rattle.lq_model.specs.Catalogue.{Catalogue, Sequence, Table, View, with_new}
-use Rattle.lq_model.specs.CreateTable.{create_table, depends_in, lacks_own, lists_twice, new_table, numbers_wrongly, repeats_number}
-use Rattle.lq_model.specs.Literals.{is_wide, is_wrong, literal_of}
-use Rattle.lq_model.specs.NameSpaces.{AreApart, all_foreign_names, are_clashing, is_taken, object_names, shared_names}
-use Rattle.lq_model.specs.Names.{is_empty, is_in, repeats, times}
-use Rattle.lq_model.specs.Reserved.{is_reserved, takes_lock_key}
+use Rattle.lq_model.specs.Catalogue.{Catalogue, Sequence, Table, View, with_new, is_empty, is_in, repeats, times, column_lists, column_missing, constraint_names, foreign_names, has_column, inner_names, key_list, placed}
+use Rattle.lq_model.specs.Tables.{create_table, depends_in, lacks_own, lists_twice, new_table, numbers_wrongly, repeats_number}
+use Rattle.lq_model.specs.Kinds.{is_wide, is_wrong, literal_of}
+use Rattle.lq_model.specs.NameSpaces.{AreApart, all_foreign_names, are_clashing, is_taken, object_names, shared_names, is_reserved, takes_lock_key}
 use Rattle.lq_model.specs.Sound.{IsSound, IsSoundTable, are_columns}
 use Rattle.lq_model.specs.Step.{step}
-use Rattle.lq_model.specs.TableNames.{column_lists, column_missing, constraint_names, foreign_names, has_column, inner_names, key_list, placed}
 use Rattle.lq_model.specs.declared.caller.By.TheVariants.{User}
 use Rattle.lq_model.specs.declared.column.ColumnDef.{ColumnDef}
 use Rattle.lq_model.specs.declared.constraint.ForeignKey.{ForeignKey}

@@ -17,12 +17,9 @@ use Rattle.lq_model.proofs.Decide.{IsSettled}
 use Rattle.lq_model.proofs.Lists.{and_left, and_right, any-append, named_itself, or_false}
 use Rattle.lq_model.proofs.Places.{placed_less}
 use Rattle.lq_model.proofs.Times.{times-append}
-use Rattle.lq_model.specs.Catalogue.{Catalogue, Sequence, Table, View, no_table, table_of, the_table, with_table}
+use Rattle.lq_model.specs.Catalogue.{Catalogue, Sequence, Table, View, no_table, table_of, the_table, with_table, times, has_bad_null, has_equals, picked, foreign_names, inner_names}
 use Rattle.lq_model.specs.NameSpaces.{AreApart, all_foreign_names, names_inside, object_names, shared_names}
-use Rattle.lq_model.specs.Names.{times}
-use Rattle.lq_model.specs.ResultTests.{has_null, has_orphan, has_orphans, has_twins, is_full, is_loose, is_overfull, lacks_parent, misses_target, table_has_null, table_has_twins, unique_lists}
-use Rattle.lq_model.specs.Row.{has_bad_null, has_equals, picked}
-use Rattle.lq_model.specs.TableNames.{foreign_names, inner_names}
+use Rattle.lq_model.specs.Plan.{has_null, has_orphan, has_orphans, has_twins, is_full, is_loose, is_overfull, lacks_parent, misses_target, table_has_null, table_has_twins, unique_lists}
 use Rattle.lq_model.specs.declared.constraint.ForeignKey.{ForeignKey}
 use Rattle.laws_stages.proofs.Stages.{above, below, inner_split, keys_split, tables_inner}
 use Rattle.laws_stages.specs.Making.{on}

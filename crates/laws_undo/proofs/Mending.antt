@@ -4,9 +4,7 @@ use Rattle.std.proofs.lemmas.List.{append-nil}
 use Rattle.std.specs.List.{All, filter, last_or, list_all, list_any}
 use Rattle.std.specs.Prelude.{Bool, List, None, Ok, Option, Result, Some, [], false, if◌then◌else◌, option_and_then, suc, take, true, ℕ, ◌==◌, ◌++◌, ◌∷◌, ◌≡◌, ◌⊎◌}
 use Rattle.laws_repair.proofs.Marked.{is_read}
-use Rattle.laws_repair.specs.LastText.{AreReadBack, LastTextTells, is_mark_text}
-use Rattle.laws_repair.specs.Mended.{AreMended, Mark, MendsAt, UpdateMends, by_of, is_named_so, marked_set, the_only}
-use Rattle.laws_repair.specs.Repair.{repair_calls, standing}
+use Rattle.laws_repair.specs.Repair.{AreReadBack, LastTextTells, is_mark_text, AreMended, Mark, MendsAt, UpdateMends, by_of, is_named_so, marked_set, the_only, repair_calls, standing}
 use Rattle.laws_undo.proofs.Texts.{joins_read, left_on, told}
 use Rattle.laws_undo.proofs.Undoing.{kept, row_there, rows_apart}
 use Rattle.laws_undo.specs.Undone.{AreStopped, Found, StopsAt, UndoMends, calls_on, journal_on}
@@ -15,9 +13,8 @@ use Rattle.lq_base.specs.declared.dialect.Dialect.TheVariants.{Mysql}
 use Rattle.lq_base.specs.declared.tracking.Lock.{Lock}
 use Rattle.lq_beside.proofs.OtherFits.{release_fits}
 use Rattle.lq_beside.proofs.UpdateFits.{update_fits}
-use Rattle.lq_beside.specs.Fitting.{HasTexts, IsTime}
-use Rattle.lq_beside.specs.Replays.{calls_fit}
-use Rattle.lq_db.specs.Last.{last_text}
+use Rattle.lq_beside.specs.Replays.{HasTexts, IsTime, calls_fit}
+use Rattle.lq_db.specs.Db.{last_text}
 use Rattle.lq_expr.specs.declared.options.Options.{Options}
 use Rattle.lq_kinds.specs.AnyChange.{gives, inverse, is_for, is_fresh}
 use Rattle.lq_kinds.specs.declared.any_change.AnyChange.{AnyChange}
@@ -27,7 +24,7 @@ use Rattle.lq_mending.proofs.Marking.{calls_repair}
 use Rattle.lq_mending.proofs.Undone.{all_first}
 use Rattle.lq_mending.specs.Undoes.{calls_of, made_in, set_marked, sets_in, standing_in, undo_script}
 use Rattle.lq_model.proofs.Lists.{and_left, and_right, and_true}
-use Rattle.lq_model.specs.Statement.{is_statement}
+use Rattle.lq_model.specs.Step.{is_statement}
 use Rattle.lq_model.specs.declared.statement.Statement.{Statement}
 use Rattle.lq_reverse.specs.Back.{PartsBack}
 use Rattle.lq_seen.proofs.Spelled.{statements_spelled}
@@ -37,11 +34,10 @@ use Rattle.lq_store.specs.Journal.{Entry}
 use Rattle.lq_track.specs.Database.{Database}
 use Rattle.lq_turns.proofs.Journal.{same_ok}
 use Rattle.lq_turns.specs.Deed.{all_done}
-use Rattle.lq_turns.specs.Effects.{statements_of}
+use Rattle.lq_turns.specs.Set.{statements_of, Set}
 use Rattle.lq_turns.specs.Laws.{AreRead}
 use Rattle.lq_turns.specs.Script.{release_calls, update_calls}
 use Rattle.lq_turns.specs.Session.{all_called, session_on}
-use Rattle.lq_turns.specs.Set.{Set}
 use Rattle.lq_turns.specs.Stops.{IsLeft, Journal, has_mark, is_mark, joined}
 use Rattle.lq_turns.specs.Within.{marks_last}
 use Rattle.lq_turns.specs.declared.call.Call.{Call}

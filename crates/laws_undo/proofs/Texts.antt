@@ -3,12 +3,11 @@ use Rattle.std.proofs.Common.{ap, inl, inr, refl, subst, sym, ◌∙◌}
 use Rattle.std.proofs.lemmas.List.{append-nil, append_assoc, map-append}
 use Rattle.std.specs.List.{last_or}
 use Rattle.std.specs.Prelude.{List, None, Ok, Option, Some, [], false, map, true, ℕ, ◌++◌, ◌∷◌, ◌≡◌, ◌⊎◌}
-use Rattle.laws_repair.specs.LastText.{AreReadBack, IsReadBack, LastTextTells, is_mark_text, last_text as last_in, text_by}
-use Rattle.laws_repair.specs.Mended.{by_of}
+use Rattle.laws_repair.specs.Repair.{AreReadBack, IsReadBack, LastTextTells, is_mark_text, last_text as last_in, text_by, by_of}
 use Rattle.lq_base.specs.declared.dialect.Dialect.{Dialect}
 use Rattle.lq_base.specs.declared.tracking.Lock.{Lock}
 use Rattle.lq_beside.specs.Replays.{calls_fit}
-use Rattle.lq_db.specs.Last.{last_after, last_text}
+use Rattle.lq_db.specs.Db.{last_after, last_text}
 use Rattle.lq_run.proofs.Replayed.{AreRead, left_read, mark_read}
 use Rattle.lq_run.specs.Stands.{deed_text, entries_of, entry_of, entry_texts}
 use Rattle.lq_statement.specs.Laws.{StatementsReadBack}
@@ -19,8 +18,7 @@ use Rattle.lq_track.specs.Lock.{free}
 use Rattle.lq_turns.proofs.Journal.{done_both, joined_both, next, same_ok}
 use Rattle.lq_turns.proofs.Locked.{led_both}
 use Rattle.lq_turns.proofs.Marks.{last_or_both}
-use Rattle.lq_turns.specs.Contents.{contents_of, with_contents}
-use Rattle.lq_turns.specs.Deed.{all_done, lock_after}
+use Rattle.lq_turns.specs.Deed.{contents_of, with_contents, all_done, lock_after}
 use Rattle.lq_turns.specs.Session.{all_called, session_on}
 use Rattle.lq_turns.specs.Stops.{IsLeft, Journal, joined}
 use Rattle.lq_turns.specs.Within.{marks_last}

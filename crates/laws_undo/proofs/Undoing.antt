@@ -8,13 +8,11 @@ use Rattle.std.specs.Option.{option_or, option_to_list}
 use Rattle.std.specs.Prelude.{Bool, Err, List, None, Ok, Option, Result, Some, [], false, if◌then◌else◌, is_none, is_some, length, nat_le, nat_lt, not, option_and_then, reverse, suc, take, true, zero, ℕ, ◌<◌, ◌==◌, ◌^◌, ◌++◌, ◌∷◌, ◌≡◌, ◌≤◌, ◌⊎◌}
 use Rattle.laws_repair.proofs.Repaired.{repair_leaves}
 use Rattle.laws_repair.proofs.Updates.{partly_by}
-use Rattle.laws_repair.specs.LastText.{LastTextTells, is_mark_text}
-use Rattle.laws_repair.specs.Mended.{Mark, by_of, marked_set}
-use Rattle.laws_repair.specs.Repair.{IsPartly, IsWhole, marked_text, repair_calls, standing}
+use Rattle.laws_repair.specs.Repair.{LastTextTells, is_mark_text, Mark, by_of, marked_set, IsPartly, IsWhole, marked_text, repair_calls, standing}
 use Rattle.laws_undo.proofs.Texts.{Since, front_held, more_since, nothing_since, told}
 use Rattle.laws_undo.specs.Undone.{AreUndone, Gives, PartsAreTakenBack, StopsHeld, TakesBack, UpdateCut, calls_on, turns_on}
 use Rattle.lq_base.specs.Kind.{plain_number}
-use Rattle.lq_base.specs.Tracking.{identity_text}
+use Rattle.lq_base.specs.Name.{identity_text}
 use Rattle.lq_base.specs.declared.dialect.Dialect.{Dialect}
 use Rattle.lq_base.specs.declared.reason.Reason.{Reason}
 use Rattle.lq_base.specs.declared.tracking.Lock.{Lock}
@@ -22,7 +20,7 @@ use Rattle.lq_base.specs.declared.tracking.Tracked.{Tracked}
 use Rattle.lq_beside.proofs.OtherFits.{release_fits}
 use Rattle.lq_beside.proofs.UpdateFits.{update_fits}
 use Rattle.lq_beside.specs.Replays.{calls_fit}
-use Rattle.lq_db.specs.Last.{last_text}
+use Rattle.lq_db.specs.Db.{last_text}
 use Rattle.lq_expr.specs.declared.options.Options.{Options}
 use Rattle.lq_kinds.specs.AnyChange.{gives, inverse, is_for, is_fresh}
 use Rattle.lq_kinds.specs.AnyChangeLaws.{does, restores, spelled}
@@ -30,15 +28,14 @@ use Rattle.lq_kinds.specs.declared.any_change.AnyChange.{AnyChange}
 use Rattle.lq_kinds.specs.declared.change_set.Changelog.{Changelog}
 use Rattle.lq_mending.proofs.Fitting.{repair_fits}
 use Rattle.lq_mending.proofs.Marking.{undo_leaves}
-use Rattle.lq_mending.specs.Refusing.{back_refused, refused_by, refused_from, refused_in}
+use Rattle.lq_mending.specs.Comes.{back_refused, refused_by, refused_from, refused_in}
 use Rattle.lq_mending.specs.Undoes.{Standing, can_undo, first_of, if_faults, made_in, refusal, refusal_at, set_marked, sets_in, standing_by, standing_in, undo_script, unless_undone, unrecorded}
 use Rattle.lq_mending.specs.declared.outcome.RepairFault.{RepairFault}
 use Rattle.lq_mending.specs.declared.outcome.RepairFault.TheVariants as fault
 use Rattle.lq_model.proofs.Lists.{all-append_left, all-append_right, and_left, and_true}
 use Rattle.lq_model.specs.Catalogue.{Catalogue}
 use Rattle.lq_model.specs.Sound.{IsSound}
-use Rattle.lq_model.specs.Statement.{is_statement}
-use Rattle.lq_model.specs.Step.{run, step}
+use Rattle.lq_model.specs.Step.{is_statement, run, step}
 use Rattle.lq_model.specs.declared.caller.By.TheVariants.{User}
 use Rattle.lq_model.specs.declared.statement.Statement.{Statement}
 use Rattle.lq_reverse.specs.Back.{PartsBack, back, backs}
@@ -49,14 +46,13 @@ use Rattle.lq_statement.specs.Laws.{StatementsReadBack}
 use Rattle.lq_store.specs.Journal.{Entry}
 use Rattle.lq_track.specs.Database.{Database, has_twin_rows}
 use Rattle.lq_turns.proofs.Stays.{all_sound}
-use Rattle.lq_turns.specs.Contents.{Contents, contents_of}
-use Rattle.lq_turns.specs.Effects.{inverses, statements_of}
+use Rattle.lq_turns.specs.Deed.{Contents, contents_of}
+use Rattle.lq_turns.specs.Set.{inverses, statements_of, Changelog as Log, IsKept, Set}
 use Rattle.lq_turns.specs.Faults.{faults}
-use Rattle.lq_turns.specs.Held.{StandsFor}
+use Rattle.lq_turns.specs.Schedule.{StandsFor}
 use Rattle.lq_turns.specs.Laws.{AreRead}
 use Rattle.lq_turns.specs.Script.{closing, turn_by, update_calls}
 use Rattle.lq_turns.specs.Session.{all_called, left_by, session_on}
-use Rattle.lq_turns.specs.Set.{Changelog as Log, IsKept, Set}
 use Rattle.lq_turns.specs.Settle.{run_turn}
 use Rattle.lq_turns.specs.Stops.{joined}
 use Rattle.lq_turns.specs.Within.{marks_last}

@@ -1,18 +1,17 @@
 -- What undo-unrecorded takes back, told by journals: where an update was stopped, where it was stopped itself, and between the stops of an update.
 use Rattle.std.specs.List.{All, last_or, list_all, list_any}
-use Rattle.std.specs.Prelude.{List, None, Ok, Option, Some, [], false, length, true, ℕ, ◌<◌, ◌==◌, ◌^◌, ◌++◌, ◌∷◌, ◌≡◌, ◌⊎◌}
-use Rattle.laws_repair.specs.Mended.{Mark, all_fit, marked_set}
-use Rattle.laws_repair.specs.Repair.{IsWhole, RunsFirst}
-use Rattle.lq_base.specs.Tracking.{identity_text}
+use Rattle.std.specs.Prelude.{List, None, Ok, Option, Some, [], false, length, true, ℕ, ◌++◌, ◌<◌, ◌==◌, ◌^◌, ◌∷◌, ◌≡◌, ◌⊎◌}
+use Rattle.laws_repair.specs.Repair.{IsWhole, Mark, RunsFirst, all_fit, marked_set}
+use Rattle.lq_base.specs.Name.{identity_text}
 use Rattle.lq_base.specs.declared.dialect.Dialect.{Dialect}
 use Rattle.lq_base.specs.declared.dialect.Dialect.TheVariants.{Mysql}
 use Rattle.lq_base.specs.declared.tracking.Tracked.{Tracked}
-use Rattle.lq_beside.specs.Fitting.{HasTexts, IsTime}
-use Rattle.lq_db.specs.Last.{last_text}
+use Rattle.lq_beside.specs.Replays.{HasTexts, IsTime}
+use Rattle.lq_db.specs.Db.{last_text}
 use Rattle.lq_expr.specs.declared.options.Options.{Options}
 use Rattle.lq_kinds.specs.declared.any_change.AnyChange.{AnyChange}
 use Rattle.lq_kinds.specs.declared.change_set.Changelog.{Changelog}
-use Rattle.lq_mending.specs.Refusing.{back_refused}
+use Rattle.lq_mending.specs.Comes.{back_refused}
 use Rattle.lq_mending.specs.Undoes.{Standing, first_of, made_in, refusal, sets_in, undo_script, unrecorded}
 use Rattle.lq_model.specs.Catalogue.{Catalogue}
 use Rattle.lq_model.specs.Sound.{IsSound}
@@ -21,17 +20,15 @@ use Rattle.lq_seen.specs.View.{any_meaning, view_log}
 use Rattle.lq_stand.specs.Stays.{IsClean}
 use Rattle.lq_store.specs.Journal.{Entry, database as catalogue_by}
 use Rattle.lq_track.specs.Database.{Database}
-use Rattle.lq_turns.specs.Again.{are_twins, has_own_sum}
-use Rattle.lq_turns.specs.Contents.{Contents, contents_of}
-use Rattle.lq_turns.specs.Deed.{all_done}
+use Rattle.lq_turns.specs.Deed.{Contents, all_done, contents_of}
 use Rattle.lq_turns.specs.Faults.{faults}
-use Rattle.lq_turns.specs.Held.{StandsFor}
 use Rattle.lq_turns.specs.Laws.{AreRead, IsAtRest}
+use Rattle.lq_turns.specs.Schedule.{StandsFor}
 use Rattle.lq_turns.specs.Script.{release_calls, turn_by, update_calls}
 use Rattle.lq_turns.specs.Session.{left_by}
 use Rattle.lq_turns.specs.Set.{Changelog as Log, Set}
 use Rattle.lq_turns.specs.Settle.{Settled, all_settled, choice, updated}
-use Rattle.lq_turns.specs.Stops.{IsLeft, IsSteady, Journal, joined}
+use Rattle.lq_turns.specs.Stops.{IsLeft, IsSteady, Journal, are_twins, has_own_sum, joined}
 use Rattle.lq_turns.specs.Within.{IsWithin}
 use Rattle.lq_turns.specs.declared.call.Call.{Call}
 use Rattle.lq_turns.specs.declared.stamp.Stamp.{Stamp}

@@ -6,22 +6,17 @@ use Rattle.std.specs.Option.{option_map}
 use Rattle.std.specs.Prelude.{Bool, Err, List, None, Ok, Option, Some, [], false, is_some, nat_eq, refl, suc, true, zero, ℕ, ◌+◌, ◌++◌, ◌∷◌, ◌≡◌, ◌≤◌, ◌⊎◌}
 use Rattle.lq_base.specs.declared.tracking.Lock.{Lock}
 use Rattle.lq_drill.specs.Drill.{IsNew}
-use Rattle.lq_drill.specs.Faults.{answer_of, Meets, Steps}
+use Rattle.lq_drill.specs.Faults.{answer_of, Meets, Steps, Grows, entries_of, entry_of}
 use Rattle.lq_drill.specs.Player.{EndsBy, Standing, LeavesAll, LeftInStep, MakesNone, Moves, MovesAs, MovesSafely, refusal}
-use Rattle.lq_drill.specs.Shows.{Grows, entries_of, entry_of}
 use Rattle.lq_drill.specs.declared.fault.DrillFault.{DrillFault}
 use Rattle.lq_alone.proofs.Course.{steps}
 use Rattle.lq_drill.proofs.Machines.{own_number}
 use Rattle.lq_drill.proofs.Crashed.{leave_both, leave_from, leave_none}
-use Rattle.lq_alone.specs.Alone.{CameTo, Follows, LeftAlone, MetAt, Stops}
-use Rattle.lq_alone.specs.One.{IsCut, StandsAt}
-use Rattle.lq_outside.specs.Count.{Rose}
-use Rattle.lq_store.specs.Crashes.{Crashes, CrashesLeave}
-use Rattle.lq_store.specs.Journal.{Entry}
-use Rattle.lq_store.specs.State.{State, Transaction, is_open}
+use Rattle.lq_alone.specs.One.{CameTo, Follows, LeftAlone, MetAt, Stops, IsCut, StandsAt}
+use Rattle.lq_outside.specs.Forms.{Rose}
+use Rattle.lq_store.specs.Journal.{Crashes, CrashesLeave, Entry, State, Transaction, is_open}
 use Rattle.lq_track.specs.Database.{Database}
-use Rattle.lq_turns.specs.Held.{StandsFor}
-use Rattle.lq_turns.specs.Schedule.{Job, Machine, has_begun, start}
+use Rattle.lq_turns.specs.Schedule.{StandsFor, Job, Machine, has_begun, start}
 use Rattle.lq_turns.specs.declared.call.Call.{Call}
 
 pub rose_later : (a b c : ℕ) → a ≤ b → Rose b c → Rose a c

@@ -7,7 +7,7 @@ use Rattle.lq_drill.specs.Faults.{Comes, Falls, Steps, frees, gives_up, has_bar,
 use Rattle.lq_drill.specs.Player.{refusal}
 use Rattle.lq_drill.specs.declared.fault.DrillFault.{DrillFault}
 use Rattle.lq_alone.proofs.Adding.{adds_up}
-use Rattle.lq_alone.specs.Left.{OneStands}
+use Rattle.lq_alone.specs.Plain.{OneStands}
 use Rattle.lq_alone.specs.One.{IsGivingUp, IsOnWay, MetFault, StandsAt, after, over, way}
 use Rattle.lq_track.specs.Database.{Database}
 use Rattle.lq_turns.proofs.Made.{calls_both}

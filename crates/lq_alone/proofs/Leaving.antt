@@ -5,13 +5,12 @@ use Rattle.std.specs.Prelude.{Bool, List, None, Option, Some, [], false, if◌th
 use Rattle.lq_base.specs.declared.dialect.Dialect.{Dialect}
 use Rattle.lq_base.specs.declared.tracking.Lock.{Lock}
 use Rattle.lq_drill.proofs.FreedOnce.{closing_frees, frees_lock}
-use Rattle.lq_drill.specs.Faults.{freed, held_by, HasNoRoom, Meets, frees, gives_up, has_bar, last_calls, left_with}
-use Rattle.lq_drill.specs.Shows.{entries_of}
+use Rattle.lq_drill.specs.Faults.{freed, held_by, HasNoRoom, Meets, frees, gives_up, has_bar, last_calls, left_with, entries_of}
 use Rattle.lq_drill.specs.declared.fault.DrillFault.{DrillFault}
 use Rattle.lq_drill.specs.declared.fault.DrillFault.TheVariants as fault
 use Rattle.lq_model.specs.declared.caller.Room.TheVariants.{Ordinary, Release}
 use Rattle.lq_alone.proofs.Adding.{adds_up}
-use Rattle.lq_alone.specs.Left.{IsFullBy, OneFrees, OneIsFull, OneLeaves}
+use Rattle.lq_alone.specs.Plain.{IsFullBy, OneFrees, OneIsFull, OneLeaves}
 use Rattle.lq_alone.specs.One.{MetFault, StandsAt, after, over, way}
 use Rattle.lq_store.specs.Journal.{end_of, is_full, size_of_all}
 use Rattle.lq_track.specs.Database.{Database}

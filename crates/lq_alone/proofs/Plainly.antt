@@ -4,23 +4,18 @@ use Rattle.std.proofs.lemmas.List.{map-append}
 use Rattle.std.specs.Option.{option_map}
 use Rattle.std.specs.Prelude.{Bool, Err, List, None, Ok, Option, Result, Some, [], false, refl, replicate, suc, true, zero, ℕ, ◌++◌, ◌∷◌, ◌≡◌}
 use Rattle.lq_base.specs.declared.tracking.Lock.{Lock}
-use Rattle.lq_drill.specs.Faults.{Steps, answer_of}
+use Rattle.lq_drill.specs.Faults.{Steps, answer_of, Shows, entries_of, entry_of}
 use Rattle.lq_alone.proofs.Along.{stands}
 use Rattle.lq_drill.proofs.Crashed.{leave_wider}
-use Rattle.lq_alone.specs.Alone.{CameTo, Follows, LeftAlone, RanAlone, Stops}
-use Rattle.lq_store.specs.Crashes.{Crashes, CrashesLeave}
+use Rattle.lq_alone.specs.One.{CameTo, Follows, LeftAlone, RanAlone, Stops, StandsAt, over}
+use Rattle.lq_store.specs.Journal.{Crashes, CrashesLeave, Entry, end_of, is_full, size_of_all, State}
 use Rattle.lq_drill.specs.Player.{Brings, Rests, Standing}
-use Rattle.lq_drill.specs.Shows.{Shows, entries_of, entry_of}
 use Rattle.lq_drill.specs.declared.fault.DrillFault.{DrillFault}
 use Rattle.lq_drill.specs.declared.fault.DrillFault.TheVariants as fault
 use Rattle.lq_alone.proofs.Course.{steps}
 use Rattle.lq_drill.proofs.Machines.{moved_last}
 use Rattle.lq_alone.proofs.Leaving.{one_is_full, one_leaves}
-use Rattle.lq_alone.specs.Left.{IsFullBy}
-use Rattle.lq_alone.specs.One.{StandsAt, over}
-use Rattle.lq_alone.specs.Plain.{EndsAlone, EndsAs, IsLeftBehind, Leaves, LeavesFront, LeavesLock, OneEnds, OneRests, OneSteps, OneStops}
-use Rattle.lq_store.specs.Journal.{Entry, end_of, is_full, size_of_all}
-use Rattle.lq_store.specs.State.{State}
+use Rattle.lq_alone.specs.Plain.{IsFullBy, EndsAlone, EndsAs, IsLeftBehind, Leaves, LeavesFront, LeavesLock, OneEnds, OneRests, OneSteps, OneStops}
 use Rattle.lq_track.specs.Database.{Database}
 use Rattle.lq_turns.specs.Schedule.{Job, Machine, all_moved, appended, has_begun, moved, start}
 use Rattle.lq_turns.specs.Session.{all_called, room_of, session_on}

@@ -1,4 +1,2 @@
 pub mod One
-pub mod Left
-pub mod Alone
 pub mod Plain

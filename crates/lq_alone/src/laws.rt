@@ -1,5 +1,4 @@
-ghost use Rattle.lq_alone.specs.Left.{OneFrees, OneIsFull, OneLeaves, OneStands};
-ghost use Rattle.lq_alone.specs.Plain.{OneEnds, OneRests, OneSteps, OneStops};
+ghost use Rattle.lq_alone.specs.Plain.{OneFrees, OneIsFull, OneLeaves, OneStands, OneEnds, OneRests, OneSteps, OneStops};
 
 /// One runner stands at one of the places of its script.
 pub fn one_stands<A>()

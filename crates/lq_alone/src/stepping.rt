@@ -1,13 +1,13 @@
 ghost use Rattle.std.specs.Prelude.{◌≡◌, ◌≤◌, Err, IsTrue, None, Ok, is_some, true, ℕ};
 ghost use Rattle.lq_drill.specs.Drill.{IsNew, IsReady};
 ghost use Rattle.lq_drill.specs.declared.fault.DrillFault.TheVariants as fault;
-ghost use Rattle.lq_alone.specs.Alone.{LeftAlone, RanAlone};
+ghost use Rattle.lq_alone.specs.One.{LeftAlone, RanAlone};
 ghost use Rattle.lq_alone.specs.Plain.{EndsAlone, IsLeftBehind, LeavesLock};
 ghost use Rattle.lq_drill.specs.Player.{MakesNone};
-ghost use Rattle.lq_outside.specs.Count.{Rose};
-ghost use Rattle.lq_store.specs.Crashes.{CrashesLeave};
+ghost use Rattle.lq_outside.specs.Forms.{Rose};
+ghost use Rattle.lq_store.specs.Journal.{CrashesLeave};
 ghost use Rattle.lq_track.specs.Database.{Database};
-ghost use Rattle.lq_turns.specs.Held.{StandsFor};
+ghost use Rattle.lq_turns.specs.Schedule.{StandsFor};
 
 use lq_drill::{DrillFault, Player};
 use lq_model::SqlText;

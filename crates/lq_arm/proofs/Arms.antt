@@ -5,12 +5,10 @@ use Rattle.std.specs.Prelude.{Bool, Err, List, None, Ok, Option, Result, Some, [
 use Rattle.lq_base.specs.declared.reason.Reason.{Reason}
 use Rattle.lq_chain.specs.History.{History}
 use Rattle.lq_model.specs.Catalogue.{Catalogue}
-use Rattle.lq_model.specs.Plan.{Plan, decide}
-use Rattle.lq_model.specs.Reasons.{unless}
+use Rattle.lq_model.specs.Plan.{Plan, decide, unless}
 use Rattle.lq_model.proofs.Decide.{none_from_unless, unless-none}
-use Rattle.lq_decide.specs.Faults.{Faults}
-use Rattle.lq_decide.specs.Judged.{judged}
-use Rattle.lq_rows.specs.Answers.{Answers, Carries, Continues, Means}
+use Rattle.lq_decide.specs.Faults.{Faults, judged}
+use Rattle.lq_rows.specs.Stored.{Answers, Carries, Continues, Means}
 use Rattle.lq_rows.specs.declared.fault.RunFault.{RunFault}
 use Rattle.lq_rows.specs.declared.fault.RunFault.TheVariants.{OutOfMemory, Refused}
 use Rattle.lq_rows.proofs.Continued.{stays}

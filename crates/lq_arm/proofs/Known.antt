@@ -8,9 +8,9 @@ use Rattle.std.specs.declared.cmp.Ordering.{Ordering}
 use Rattle.std.specs.declared.cmp.Ordering.TheVariants.{Less, Equal, Greater}
 use Rattle.lq_base.specs.Name.{is_named, name_cmp}
 use Rattle.lq_base.specs.declared.name.Name.{Name}
-use Rattle.lq_model.specs.Names.{is_in, repeats}
+use Rattle.lq_model.specs.Catalogue.{is_in, repeats}
 use Rattle.lq_model.proofs.Lists.{named_itself, other_way, same_name, whether}
-use Rattle.lq_arm.specs.Known.{has_name}
+use Rattle.lq_arm.specs.Verdict.{has_name}
 
 abbrev lent_cmp : Bor Name → Bor Name → Ordering
 lent_cmp a b = name_cmp a.now b.now

@@ -5,11 +5,8 @@ use Rattle.std.specs.List.{flat_map, list_any}
 use Rattle.std.specs.Str.{bytes_eq}
 use Rattle.lq_base.specs.Name.{beside, is_named}
 use Rattle.lq_base.specs.declared.name.Name.{Name}
-use Rattle.lq_model.specs.Catalogue.{Catalogue, Table}
-use Rattle.lq_model.specs.NameSpaces.{all_foreign_names, names_inside, object_names, shared_names}
-use Rattle.lq_model.specs.Names.{is_in}
-use Rattle.lq_model.specs.Reserved.{lock_key}
-use Rattle.lq_model.specs.TableNames.{constraint_names, foreign_names, index_names, inner_names, key_list}
+use Rattle.lq_model.specs.Catalogue.{Catalogue, Table, is_in, constraint_names, foreign_names, index_names, inner_names, key_list}
+use Rattle.lq_model.specs.NameSpaces.{all_foreign_names, names_inside, object_names, shared_names, lock_key}
 use Rattle.lq_model.proofs.Lists.{any-append, any-map, any_same, named_itself, same_name, true_false, whether}
 use Rattle.lq_rows.specs.Stored.{Stored}
 

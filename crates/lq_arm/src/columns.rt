@@ -2,8 +2,8 @@ ghost use Rattle.std.specs.List.{list_any};
 ghost use Rattle.std.specs.Prelude.{◌≡◌, ◌||◌, IfOk, OnOk, map, not};
 ghost use Rattle.lq_base.specs.Name.{is_named};
 ghost use Rattle.lq_base.specs.declared.name.Name.{Name as Bytes};
-ghost use Rattle.lq_model.specs.Names as spaces;
-ghost use Rattle.lq_arm.specs.Known.{has_name};
+ghost use Rattle.lq_model.specs.Catalogue as spaces;
+ghost use Rattle.lq_arm.specs.Verdict.{has_name};
 
 use lq_base::{Name, NoMemory};
 use lq_model::Column;

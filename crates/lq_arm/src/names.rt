@@ -2,9 +2,8 @@ ghost use Rattle.std.specs.List.{list_any};
 ghost use Rattle.std.specs.Prelude.{◌≡◌, ◌∷◌, []};
 ghost use Rattle.lq_base.specs.Name.{beside, is_named};
 ghost use Rattle.lq_model.specs.NameSpaces.{names_inside};
-ghost use Rattle.lq_model.specs.Names.{is_in};
-ghost use Rattle.lq_model.specs.Reserved as reserved;
-ghost use Rattle.lq_model.specs.TableNames.{constraint_names, index_names, key_list};
+ghost use Rattle.lq_model.specs.Catalogue.{is_in, constraint_names, index_names, key_list};
+ghost use Rattle.lq_model.specs.NameSpaces as reserved;
 
 use lq_base::{Dialect, Name, is_placed};
 use lq_model::By;

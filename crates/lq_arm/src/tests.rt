@@ -1,5 +1,5 @@
 ghost use Rattle.lq_arm.specs.Verdict.{verdict_of};
-ghost use Rattle.lq_rows.specs.Answers.{Means};
+ghost use Rattle.lq_rows.specs.Stored.{Means};
 
 use lq_base::Reason;
 use lq_rows::RunFault;

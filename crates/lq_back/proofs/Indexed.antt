@@ -6,7 +6,7 @@ use Rattle.lq_base.specs.declared.identity.Identity.{Identity}
 use Rattle.lq_kinds.specs.declared.change_set.ChangeSet.{ChangeSet}
 use Rattle.lq_plan.proofs.Behind.{at_key}
 use Rattle.lq_plan.proofs.Indexed.{its_key}
-use Rattle.lq_plan.specs.Index.{IdentityKey, key_cmp, keyed}
+use Rattle.lq_plan.specs.Told.{IdentityKey, key_cmp, keyed}
 use Rattle.lq_back.specs.Reversal.{HasSets, KeepsSet, found_at, found_from, is_its, kept_set}
 use Rattle.lq_back.specs.declared.set_index.Place.{Place}
 use Rattle.lq_track.specs.Database.{same_identity}

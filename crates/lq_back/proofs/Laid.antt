@@ -5,12 +5,11 @@ use Rattle.std.specs.Prelude.{reverse}
 use Rattle.lq_base.specs.declared.dialect.Dialect.{Dialect}
 use Rattle.lq_base.specs.declared.tracking.Tracked.{Tracked}
 use Rattle.lq_hand.proofs.Laying.{then_lays}
-use Rattle.lq_hand.specs.Enters.{IsTurn}
-use Rattle.lq_hand.specs.Hand.{AreTurns}
-use Rattle.lq_hand.specs.TurnCalls.{Lays}
+use Rattle.lq_hand.specs.Way.{IsTurn}
+use Rattle.lq_hand.specs.Hand.{AreTurns, Lays}
 use Rattle.lq_hand.specs.declared.hand.Phase.TheVariants.{Inside}
 use Rattle.lq_back.proofs.Ways.{map_behind}
-use Rattle.lq_back.specs.SyncTurn.{AreDated, insert_call, sync_calls}
+use Rattle.lq_back.specs.Reversal.{AreDated, insert_call, sync_calls}
 use Rattle.lq_turns.specs.declared.call.Call.{Call}
 use Rattle.lq_turns.specs.declared.call.Call.TheVariants.{Begin, Commit}
 

@@ -9,34 +9,30 @@ use Rattle.lq_base.specs.declared.run.Happened.{Happened}
 use Rattle.lq_base.specs.declared.run.Printed.{Printed}
 use Rattle.lq_base.specs.declared.run.Why.{Why}
 use Rattle.lq_hand.proofs.Expected.{HoldsAtEnd, turn_expected}
-use Rattle.lq_hand.specs.Counts.{no_progress}
-use Rattle.lq_hand.specs.Enters.{Enters, IsTurn}
-use Rattle.lq_hand.specs.Hand.{calls_left, hand_place, place_of}
-use Rattle.lq_hand.specs.Way.{GivesUp, refusal_at_end, refused_in, seen_along}
-use Rattle.lq_hand.specs.Writable.{IsWritable}
+use Rattle.lq_hand.specs.Way.{no_progress, Enters, IsTurn, GivesUp, refusal_at_end, refused_in, seen_along}
+use Rattle.lq_hand.specs.Hand.{calls_left, hand_place, place_of, IsWritable}
 use Rattle.lq_hand.specs.declared.hand.Hand.{Hand}
 use Rattle.lq_hand.specs.declared.source.Entered.TheVariants.{Lack, NoTurn, Turn as InHand}
 use Rattle.lq_kinds.specs.AnyChangeLaws.{does, restores, spelled}
 use Rattle.lq_kinds.specs.declared.any_change.AnyChange.{AnyChange}
 use Rattle.lq_model.proofs.Lists.{and_left, and_right}
 use Rattle.lq_model.specs.Catalogue.{Catalogue}
-use Rattle.lq_model.specs.Statement.{is_statement}
+use Rattle.lq_model.specs.Step.{is_statement}
 use Rattle.lq_model.specs.declared.statement.Statement.{Statement}
 use Rattle.lq_back.proofs.Ways.{last_first}
 use Rattle.lq_seen.proofs.Leading.{Adds, leads_end, leads_on}
 use Rattle.lq_seen.proofs.Shown.{all_shown, more_shown}
-use Rattle.lq_back.specs.RowTurns.{LeadsBack, goes_back, is_deletion, printed, rolled_back, row_way}
-use Rattle.lq_seen.specs.Printing.{Account, shown, with_texts}
-use Rattle.lq_seen.specs.Telling.{Leads, Reports, bounded}
+use Rattle.lq_back.specs.Reversal.{LeadsBack, goes_back, is_deletion, printed, rolled_back, row_way}
+use Rattle.lq_seen.specs.Telling.{Account, shown, with_texts, Leads, Reports, bounded}
 use Rattle.lq_seen.specs.declared.outcome.Outcome.{Outcome}
 use Rattle.lq_back.specs.declared.row_turns.RowTurns.{RowTurns}
 use Rattle.lq_seen.specs.View.{any_meaning}
 use Rattle.lq_turns.proofs.Entered.{enters_row}
-use Rattle.lq_turns.specs.Contents.{Contents, contents_of}
+use Rattle.lq_turns.specs.Deed.{Contents, contents_of}
 use Rattle.lq_turns.specs.Rest.{Inside, OfRows, Turns, between, rest}
 use Rattle.lq_turns.specs.Set.{IsKept}
 use Rattle.lq_turns.specs.Printed.{printed_as, printed_back}
-use Rattle.lq_turns.specs.Rollback.{all_rolled, rolled_as}
+use Rattle.lq_turns.specs.Script.{all_rolled, rolled_as}
 use Rattle.lq_turns.specs.Settle.{unless_stopped}
 use Rattle.lq_turns.specs.Turn.{Ending, Finished, Refused, ending, turn_calls}
 use Rattle.lq_turns.specs.declared.call.Call.{Call}

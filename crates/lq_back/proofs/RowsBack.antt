@@ -14,8 +14,8 @@ use Rattle.lq_seen.specs.View.{any_meaning, view, views}
 use Rattle.lq_back.specs.declared.reversal.TakenBack.{TakenBack}
 use Rattle.lq_back.specs.declared.reversal.TakenBack.TheVariants.{Alone, By}
 use Rattle.lq_track.specs.Log.{identity_of}
-use Rattle.lq_turns.specs.Effects.{undoing}
-use Rattle.lq_turns.specs.Rollback.{is_mark_ran, undo_by, undo_turn, undo_turns}
+use Rattle.lq_turns.specs.Set.{undoing}
+use Rattle.lq_turns.specs.Script.{is_mark_ran, undo_by, undo_turn, undo_turns}
 use Rattle.lq_turns.specs.declared.turn.Turn.{Turn}
 
 -- one row

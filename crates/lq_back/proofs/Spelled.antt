@@ -5,24 +5,22 @@ use Rattle.std.specs.Prelude.{option_and_then}
 use Rattle.lq_base.specs.declared.dialect.Dialect.{Dialect}
 use Rattle.lq_base.specs.declared.tracking.Tracked.{Tracked}
 use Rattle.lq_expr.specs.declared.options.Options.{Options}
-use Rattle.lq_kinds.specs.AnyChange.{inverse, is_for}
+use Rattle.lq_kinds.specs.AnyChange.{inverse, is_for, is_block_for, is_read_for}
 use Rattle.lq_kinds.specs.AnyChangeLaws.{returned}
-use Rattle.lq_kinds.specs.Dialects.{is_block_for, is_read_for}
 use Rattle.lq_kinds.specs.declared.any_change.AnyChange.{AnyChange}
 use Rattle.lq_kinds.specs.declared.change_set.ChangeSet.{ChangeSet}
 use Rattle.lq_model.proofs.Lists.{all-append, and_left, and_right, and_true}
-use Rattle.lq_model.specs.Statement.{is_statement}
+use Rattle.lq_model.specs.Step.{is_statement}
 use Rattle.lq_model.specs.declared.statement.Statement.{Statement}
 use Rattle.lq_seen.proofs.Read.{all_at}
 use Rattle.lq_seen.proofs.Spelled.{statements_spelled}
 use Rattle.lq_back.proofs.Ways.{place_is, set_found, undone}
 use Rattle.lq_back.specs.Laws.{TurnsBackAreSpelled}
-use Rattle.lq_back.specs.Reversal.{found_at, turn_back}
-use Rattle.lq_back.specs.RowTurns.{goes_back}
+use Rattle.lq_back.specs.Reversal.{found_at, turn_back, goes_back}
 use Rattle.lq_seen.specs.View.{any_meaning, view, views}
 use Rattle.lq_track.specs.Log.{identity_of}
-use Rattle.lq_turns.specs.Effects.{inverses, undoing}
-use Rattle.lq_turns.specs.Rollback.{is_mark_ran, set_of, undo_by, undo_turn, undo_turns}
+use Rattle.lq_turns.specs.Set.{inverses, undoing}
+use Rattle.lq_turns.specs.Script.{is_mark_ran, set_of, undo_by, undo_turn, undo_turns}
 use Rattle.lq_turns.specs.declared.turn.Turn.{Turn}
 
 abbrev are_spelled : Dialect → Option (List Statement) → Bool

@@ -7,7 +7,7 @@ use Rattle.std.specs.BTreeSet.{BTreeSet, Updates, contains}
 use Rattle.std.specs.List.{find, list_any}
 use Rattle.std.specs.Prelude.{if◌then◌else◌, pos}
 use Rattle.lq_base.specs.Moment.{IsMoment}
-use Rattle.lq_base.specs.Text.{text_cmp}
+use Rattle.lq_base.specs.Name.{text_cmp}
 use Rattle.lq_base.specs.declared.identity.Identity.{Identity}
 use Rattle.lq_base.specs.declared.tracking.Exec.TheVariants.{Executed}
 use Rattle.lq_base.specs.declared.tracking.Tracked.{Tracked}
@@ -16,11 +16,9 @@ use Rattle.lq_kinds.specs.declared.any_change.AnyChange.{AnyChange}
 use Rattle.lq_kinds.specs.declared.change_set.ChangeSet.{ChangeSet}
 use Rattle.lq_model.proofs.Lists.{any-append}
 use Rattle.lq_plan.proofs.Indexed.{all_equal, its_key}
-use Rattle.lq_plan.specs.Index.{IdentityKey, key_cmp, keyed}
-use Rattle.lq_seen.specs.Selection.{is_selected}
-use Rattle.lq_back.specs.SyncTurn.{AreDated}
-use Rattle.lq_back.specs.Syncing.{Adds, HasIdentities, IsAt, Keeps, has_no_row}
-use Rattle.lq_seen.specs.View.{view, views}
+use Rattle.lq_plan.specs.Told.{IdentityKey, key_cmp, keyed}
+use Rattle.lq_seen.specs.View.{is_selected, view, views}
+use Rattle.lq_back.specs.Reversal.{AreDated, Adds, HasIdentities, IsAt, Keeps, has_no_row}
 use Rattle.lq_back.specs.declared.sync_rows.Made.{Made}
 use Rattle.lq_track.specs.Log.{identity_of}
 use Rattle.lq_turns.specs.Deed.{is_of}

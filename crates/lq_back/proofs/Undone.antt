@@ -4,7 +4,7 @@ use Rattle.std.specs.Prelude.{if◌then◌else◌, int_lt, reverse, ℤ}
 use Rattle.lq_base.specs.declared.command.Target.{Target}
 use Rattle.lq_base.specs.declared.command.Target.TheVariants.{Count, Date, Tag}
 use Rattle.lq_base.specs.declared.tracking.Tracked.{Tracked}
-use Rattle.lq_turns.specs.Rollback.{has_tag, places_until, rows_kept, rows_undone, tagged_place}
+use Rattle.lq_turns.specs.Script.{has_tag, places_until, rows_kept, rows_undone, tagged_place}
 
 -- no more rows stay than there are
 

@@ -22,8 +22,8 @@ use Rattle.lq_back.specs.declared.reverse_fault.ReverseFault.{ReverseFault}
 use Rattle.lq_back.specs.declared.reverse_fault.ReverseFault.TheVariants.{Not, OutOfMemory}
 use Rattle.lq_track.specs.Log.{identity_of}
 use Rattle.lq_model.specs.declared.statement.Statement.{Statement}
-use Rattle.lq_turns.specs.Effects.{inverses, statements_of, undoing}
-use Rattle.lq_turns.specs.Rollback.{is_mark_ran, not_reversible, set_of, undo_turn}
+use Rattle.lq_turns.specs.Set.{inverses, statements_of, undoing}
+use Rattle.lq_turns.specs.Script.{is_mark_ran, not_reversible, set_of, undo_turn}
 
 -- whether something takes a changeset back
 

@@ -1,18 +1,17 @@
 -- What a way of taking a row back tells, and for which dialect are the turns back.
 use Rattle.std.specs.List.{list_all, slice_get}
 use Rattle.std.specs.Prelude.{List, Some, false, true, ℕ, ◌≡◌}
+use Rattle.lq_back.specs.Reversal.{goes_back, taken_back}
+use Rattle.lq_back.specs.declared.reversal.TakenBack.TheVariants.{By}
 use Rattle.lq_base.specs.declared.dialect.Dialect.{Dialect}
 use Rattle.lq_base.specs.declared.tracking.Tracked.{Tracked}
 use Rattle.lq_expr.specs.declared.options.Options.{Options}
-use Rattle.lq_kinds.specs.Dialects.{AreFor}
+use Rattle.lq_kinds.specs.AnyChange.{AreFor}
 use Rattle.lq_kinds.specs.declared.change_set.ChangeSet.{ChangeSet}
 use Rattle.lq_kinds.specs.declared.change_set.Changelog.{Changelog}
-use Rattle.lq_back.specs.Reversal.{taken_back}
-use Rattle.lq_back.specs.RowTurns.{goes_back}
 use Rattle.lq_seen.specs.View.{any_meaning, view, views}
-use Rattle.lq_back.specs.declared.reversal.TakenBack.TheVariants.{By}
 use Rattle.lq_track.specs.Log.{identity_of}
-use Rattle.lq_turns.specs.Rollback.{is_mark_ran, set_of, undo_turns}
+use Rattle.lq_turns.specs.Script.{is_mark_ran, set_of, undo_turns}
 use Rattle.lq_turns.specs.declared.turn.Turn.{Turn}
 
 -- at the place of a row that goes by a changeset stands the changeset of the row's identity

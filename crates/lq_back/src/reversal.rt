@@ -3,7 +3,7 @@ ghost use Rattle.std.specs.Prelude.{◌≡◌, IfOk, List, None, Some, if◌then
 ghost use Rattle.lq_expr.specs.declared.options.Options.{Options};
 ghost use Rattle.lq_kinds.specs.declared.change_set.ChangeSet.{ChangeSet as OneSet};
 ghost use Rattle.lq_track.specs.Log.{identity_of};
-ghost use Rattle.lq_turns.specs.Rollback.{is_mark_ran, not_reversible, undo_turn};
+ghost use Rattle.lq_turns.specs.Script.{is_mark_ran, not_reversible, undo_turn};
 ghost use Rattle.lq_back.specs.Reversal.{AreWays, HasSets, IsRefusal, IsReversed, has_inverse, is_undoable, taken_back};
 ghost use Rattle.lq_seen.specs.View.{any_meaning, views};
 ghost use Rattle.lq_back.specs.declared.reversal.TakenBack.TheVariants.{By};

@@ -1,8 +1,8 @@
 ghost use Rattle.std.specs.Prelude.{◌≡◌, IfOk, Some, reverse, true};
 ghost use Rattle.lq_expr.specs.declared.options.Options.{Options};
-ghost use Rattle.lq_kinds.specs.Dialects.{AreFor, is_read_for};
+ghost use Rattle.lq_kinds.specs.AnyChange.{AreFor, is_read_for};
 ghost use Rattle.lq_track.specs.Log.{identity_of};
-ghost use Rattle.lq_turns.specs.Rollback.{undo_by, undo_turn, undo_turns};
+ghost use Rattle.lq_turns.specs.Script.{undo_by, undo_turn, undo_turns};
 ghost use Rattle.lq_back.specs.Reversal.{AreWays, is_undoable, taken_back, turn_back};
 ghost use Rattle.lq_seen.specs.View.{any_meaning, view, views};
 ghost use Rattle.lq_back.specs.declared.reversal.TakenBack.TheVariants.{By};

@@ -3,13 +3,12 @@ ghost use Rattle.std.specs.Prelude.{◌≡◌, ◌++◌, ◌∷◌, [], IfOk, Li
 ghost use Rattle.lq_base.specs.declared.run.Happened.{Happened as Event};
 ghost use Rattle.lq_base.specs.declared.run.Printed.{Printed as Shown};
 ghost use Rattle.lq_expr.specs.declared.options.Options.{Options};
-ghost use Rattle.lq_kinds.specs.Dialects.{AreFor};
-ghost use Rattle.lq_model.specs.Statement.{is_statement};
-ghost use Rattle.lq_turns.specs.Contents.{Contents};
-ghost use Rattle.lq_turns.specs.Rollback.{undo_turns};
-ghost use Rattle.lq_back.specs.Reversal.{AreWays};
-ghost use Rattle.lq_back.specs.RowTurns.{LeadsBack, goes_back, printed, rolled_back};
-ghost use Rattle.lq_seen.specs.Printing.{of_turns};
+ghost use Rattle.lq_kinds.specs.AnyChange.{AreFor};
+ghost use Rattle.lq_model.specs.Step.{is_statement};
+ghost use Rattle.lq_turns.specs.Deed.{Contents};
+ghost use Rattle.lq_turns.specs.Script.{undo_turns};
+ghost use Rattle.lq_back.specs.Reversal.{AreWays, LeadsBack, goes_back, printed, rolled_back};
+ghost use Rattle.lq_seen.specs.Telling.{of_turns};
 ghost use Rattle.lq_seen.specs.View.{any_meaning, views};
 
 use crate::reversal::TakenBack;
@@ -70,8 +69,8 @@ impl Source for RowTurns {
     ghost use Rattle.std.specs.List.{list_all};
     ghost use Rattle.std.specs.Prelude.{◌≡◌, reverse, true};
     ghost use Rattle.lq_kinds.specs.declared.any_change.AnyChange.{AnyChange};
-    ghost use Rattle.lq_back.specs.RowTurns.{goes_back, row_way};
-    ghost use Rattle.lq_seen.specs.Printing.{Account};
+    ghost use Rattle.lq_back.specs.Reversal.{goes_back, row_way};
+    ghost use Rattle.lq_seen.specs.Telling.{Account};
     ghost use Rattle.lq_seen.specs.View.{any_meaning};
     ghost use Rattle.lq_turns.specs.Rest.{OfRows};
 

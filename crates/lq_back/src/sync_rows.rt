@@ -2,9 +2,8 @@ ghost use Rattle.std.specs.Prelude.{◌≡◌, ◌≤◌, ◌+◌, ◌++◌, ◌
 ghost use Rattle.lq_base.specs.declared.tracking.Exec.TheVariants.{Executed};
 ghost use Rattle.lq_base.specs.declared.tracking.Tracked.{Tracked as Row};
 ghost use Rattle.lq_expr.specs.declared.options.Options.{Options as Chosen};
-ghost use Rattle.lq_plan.specs.Index.{HasRows};
-ghost use Rattle.lq_back.specs.SyncTurn.{AreDated};
-ghost use Rattle.lq_back.specs.Syncing.{Adds, HasIdentities, IsAt, Keeps, has_no_row};
+ghost use Rattle.lq_plan.specs.Told.{HasRows};
+ghost use Rattle.lq_back.specs.Reversal.{AreDated, Adds, HasIdentities, IsAt, Keeps, has_no_row};
 ghost use Rattle.lq_seen.specs.View.{view, view_log};
 ghost use Rattle.lq_turns.specs.Script.{rows_to_sync};
 ghost use Rattle.lq_turns.specs.Set.{has_row};

@@ -1,9 +1,8 @@
 ghost use Rattle.std.specs.Prelude.{◌≡◌, ◌++◌, ◌∷◌, [], IfOk, None, OnOk, false, map, reverse};
-ghost use Rattle.lq_hand.specs.Enters.{IsTurn};
-ghost use Rattle.lq_hand.specs.Hand.{calls_left};
-ghost use Rattle.lq_hand.specs.TurnCalls.{Lays};
-ghost use Rattle.lq_back.specs.SyncTurn.{AreDated, insert_call, mark_of, sync_calls};
-ghost use Rattle.lq_turns.specs.Synced.{marked_by};
+ghost use Rattle.lq_hand.specs.Way.{IsTurn};
+ghost use Rattle.lq_hand.specs.Hand.{calls_left, Lays};
+ghost use Rattle.lq_back.specs.Reversal.{AreDated, insert_call, mark_of, sync_calls};
+ghost use Rattle.lq_turns.specs.Laws.{marked_by};
 ghost use Rattle.lq_turns.specs.declared.call.Call.TheVariants.{Begin, Commit};
 
 use crate::reversal::identity_of;

@@ -1,5 +1,5 @@
 ghost use Rattle.std.specs.Prelude.{◌≡◌, IfOk, None, OnErr, Some, option_map, reverse};
-ghost use Rattle.lq_turns.specs.Rollback.{rows_kept, rows_undone};
+ghost use Rattle.lq_turns.specs.Script.{rows_kept, rows_undone};
 
 use lq_base::{Target, Tracked};
 use lq_kept::{NoTag, suffix};

@@ -11,10 +11,9 @@ use Rattle.lq_base.specs.declared.value.Value.{Value}
 use Rattle.lq_base.specs.declared.value.Value.TheVariants as value
 use Rattle.lq_base.specs.declared.convert.IntoFault.{IntoFault}
 use Rattle.lq_base.specs.declared.convert.IntoFault.TheVariants.{WrongKind, TooWide, OutOfMemory}
-use Rattle.lq_base.specs.Into.{Goes, GoesAs, is_number_kind}
+use Rattle.lq_base.specs.Spells.{Goes, GoesAs, is_number_kind, SpellsMoment, SpellsNumber}
 use Rattle.lq_base.specs.Moment.{moment_of}
 use Rattle.lq_base.specs.Number.{number_of}
-use Rattle.lq_base.specs.Spells.{SpellsMoment, SpellsNumber}
 use Rattle.lq_base.specs.Value.{is_value_of, into_kind, said_by_number, within_width}
 use Rattle.lq_base.proofs.MomentSpelled.{moment_of-spells, spells-moment_of}
 use Rattle.lq_base.proofs.NumberSpelled.{number_of-spells, spells-number_of}

@@ -7,7 +7,7 @@ use Rattle.std.specs.FinMap.{nat_cmp-IsAntisymmetric, slice_cmp-IsAntisymmetric}
 use Rattle.std.specs.Ordering.{is_eq}
 use Rattle.std.specs.declared.cmp.Ordering.{Ordering}
 use Rattle.std.specs.declared.cmp.Ordering.TheVariants.{Equal, Greater, Less}
-use Rattle.lq_base.specs.Character.{has_control, is_control}
+use Rattle.lq_base.specs.Number.{has_control, is_control}
 use Rattle.lq_base.specs.Laws.{KeysTellNames, NamesTellKeys}
 use Rattle.lq_base.specs.Name.{beside, is_elsewhere, is_key_in, is_name, is_name_key, is_named, longer, name_cmp, parts_of, place_in, public, schema_in, schema_of, text_in, text_of, within}
 

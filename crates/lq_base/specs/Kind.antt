@@ -1,17 +1,17 @@
 -- Which kinds there are, which texts name one, and how a kind is spelled.
-use Rattle.std.specs.Prelude.{ℕ, ◌-◌, ◌==◌, ◌&&◌, ◌||◌, not, nat_lt, nat_le, Bool, true, if◌then◌else◌, List, [], ◌∷◌, ◌++◌, length, take, drop, slice_index, Option, Some, None, option_and_then, codes}
 use Rattle.std.specs.Char.{is_ascii_digit}
 use Rattle.std.specs.Fmt.{decimal}
 use Rattle.std.specs.Int.{is_in_range}
-use Rattle.std.specs.List.{list_all, before_first, after_first, position_or_len}
+use Rattle.std.specs.List.{after_first, before_first, list_all, position_or_len}
 use Rattle.std.specs.Map.{lookup}
+use Rattle.std.specs.Prelude.{Bool, List, None, Option, Some, [], codes, drop, if◌then◌else◌, length, nat_le, nat_lt, not, option_and_then, slice_index, take, true, ℕ, ◌&&◌, ◌++◌, ◌-◌, ◌==◌, ◌||◌, ◌∷◌}
 use Rattle.std.specs.Str.{str_eq_ignore_ascii_case}
 use Rattle.std.specs.Str.Parse.{digits_value}
-use Rattle.lq_base.specs.declared.dialect.Dialect.{Dialect}
-use Rattle.lq_base.specs.declared.dialect.Dialect.TheVariants.{Postgresql, Mysql}
-use Rattle.lq_base.specs.declared.kind.Kind.{Kind}
-use Rattle.lq_base.specs.declared.kind.Kind.TheVariants.{Int, BigInt, Boolean, Varchar, Text, Moment, Decimal}
 use Rattle.lq_base.specs.Number.{is_digits}
+use Rattle.lq_base.specs.declared.dialect.Dialect.{Dialect}
+use Rattle.lq_base.specs.declared.dialect.Dialect.TheVariants.{Mysql, Postgresql}
+use Rattle.lq_base.specs.declared.kind.Kind.{Kind}
+use Rattle.lq_base.specs.declared.kind.Kind.TheVariants.{BigInt, Boolean, Decimal, Int, Moment, Text, Varchar}
 
 -- a kind that can be named: a text of 1 to 10,000 characters at most, a decimal of 1 to 38 digits
 abbrev pub is_kind : Kind → Bool

@@ -1,16 +1,16 @@
 -- What holds of the definitions.
-use Rattle.std.specs.Prelude.{◌≡◌, ◌^◌, ◌<◌, true, IsTrue, Ok, Some, ℕ, ℤ, unsigned_abs, List}
-use Rattle.lq_base.specs.declared.dialect.Dialect.{Dialect}
-use Rattle.lq_base.specs.declared.kind.Kind.{Kind}
-use Rattle.lq_base.specs.declared.literal.Literal.{Literal}
-use Rattle.lq_base.specs.declared.literal.Literal.TheVariants.{Int, Fixed}
-use Rattle.lq_base.specs.declared.value.Value.{Value}
+use Rattle.std.specs.Prelude.{IsTrue, List, Ok, Some, true, unsigned_abs, ℕ, ℤ, ◌<◌, ◌^◌, ◌≡◌}
 use Rattle.lq_base.specs.Kind.{is_kind, kind_of, kind_text}
 use Rattle.lq_base.specs.Moment.{IsMoment, moment_of, moment_text}
 use Rattle.lq_base.specs.Name.{is_name, is_name_key, schema_of, text_of, within}
-use Rattle.lq_base.specs.Number.{number_of, whole_text, fixed_text}
-use Rattle.lq_base.specs.Spells.{SpellsNumber, SpellsMoment, NamesKind}
-use Rattle.lq_base.specs.Value.{is_value_of, into_kind}
+use Rattle.lq_base.specs.Number.{fixed_text, number_of, whole_text}
+use Rattle.lq_base.specs.Spells.{NamesKind, SpellsMoment, SpellsNumber}
+use Rattle.lq_base.specs.Value.{into_kind, is_value_of}
+use Rattle.lq_base.specs.declared.dialect.Dialect.{Dialect}
+use Rattle.lq_base.specs.declared.kind.Kind.{Kind}
+use Rattle.lq_base.specs.declared.literal.Literal.{Literal}
+use Rattle.lq_base.specs.declared.literal.Literal.TheVariants.{Fixed, Int}
+use Rattle.lq_base.specs.declared.value.Value.{Value}
 
 -- what a literal becomes in a kind is a value of the kind
 abbrev pub IntoIsValue : Type 0

@@ -1,10 +1,10 @@
 -- Moments: milliseconds since 1970-01-01 00:00:00, in the years 1 to 9999 of the Gregorian calendar.
-use Rattle.std.specs.Prelude.{ℕ, zero, suc, ◌+◌, ◌*◌, ◌/◌, ◌%◌, ◌==◌, ◌&&◌, ◌||◌, nat_lt, Bool, if◌then◌else◌, ℤ, pos, neg_ℤ, ◌+ℤ◌, ◌*ℤ◌, ◌≤ℤ◌, int_le, unsigned_abs, List, ◌∷◌, ◌++◌, length, take, drop, slice_index, Option, Some, None, option_map, option_and_then}
 use Rattle.std.specs.Char.{is_ascii_digit}
 use Rattle.std.specs.Int.{is_in_range}
 use Rattle.std.specs.List.{list_all}
+use Rattle.std.specs.Prelude.{Bool, List, None, Option, Some, drop, if◌then◌else◌, int_le, length, nat_lt, neg_ℤ, option_and_then, option_map, pos, slice_index, suc, take, unsigned_abs, zero, ℕ, ℤ, ◌%◌, ◌&&◌, ◌*ℤ◌, ◌*◌, ◌++◌, ◌+ℤ◌, ◌+◌, ◌/◌, ◌==◌, ◌||◌, ◌∷◌, ◌≤ℤ◌}
 use Rattle.std.specs.Str.Parse.{digits_value}
-use Rattle.jiff_core.specs.Calendar.{days_in_month, days_from_civil}
+use Rattle.jiff_core.specs.Calendar.{days_from_civil, days_in_month}
 use Rattle.jiff_core.specs.declared.civil.date.Date.{Date}
 use Rattle.lq_base.specs.Number.{last_digits}
 

@@ -1,12 +1,27 @@
--- Which texts spell a number, and how a number is written.
-use Rattle.std.specs.Prelude.{ℕ, zero, suc, ◌+◌, ◌/◌, ◌%◌, ◌^◌, ◌==◌, ◌&&◌, nat_lt, nat_le, min, Bool, if◌then◌else◌, ℤ, pos, neg_ℤ, unsigned_abs, List, [], ◌∷◌, ◌++◌, length, drop, Option, Some, None}
-use Rattle.std.specs.Int.{is_negative}
+-- Control characters, and how many characters a text has.
 use Rattle.std.specs.Char.{is_ascii_digit}
-use Rattle.std.specs.Fmt.{decimal, signed_decimal, sign_text}
-use Rattle.std.specs.List.{list_all, before_first, after_first, position_or_len}
+use Rattle.std.specs.Fmt.{decimal, sign_text, signed_decimal}
+use Rattle.std.specs.Int.{is_negative}
+use Rattle.std.specs.List.{after_first, before_first, list_all, list_any, position_or_len}
+use Rattle.std.specs.Prelude.{Bool, List, None, Option, Some, [], drop, if◌then◌else◌, length, min, nat_le, nat_lt, neg_ℤ, pos, suc, true, unsigned_abs, zero, ℕ, ℤ, ◌%◌, ◌&&◌, ◌++◌, ◌+◌, ◌/◌, ◌==◌, ◌^◌, ◌||◌, ◌∷◌}
+use Rattle.std.specs.Str.{chars}
 use Rattle.std.specs.Str.Parse.{digits_value, starts_with_minus}
 use Rattle.lq_base.specs.declared.literal.Literal.{Literal}
-use Rattle.lq_base.specs.declared.literal.Literal.TheVariants.{Int, Fixed}
+use Rattle.lq_base.specs.declared.literal.Literal.TheVariants.{Fixed, Int}
+
+-- a byte below U+0020, or U+007F
+abbrev pub is_control : ℕ → Bool
+is_control byte = nat_lt byte 32 || byte == 127
+
+-- some byte of the text is a control character
+abbrev pub has_control : List ℕ → Bool
+has_control bytes = list_any is_control bytes
+
+-- the number of characters, which are Unicode scalar values
+abbrev pub char_count : List ℕ → ℕ
+char_count bytes = length (chars bytes)
+
+-- Which texts spell a number, and how a number is written.
 
 -- the number with this sign and magnitude
 abbrev pub signed : Bool → ℕ → ℤ
@@ -64,3 +79,10 @@ fixed_text units zero = whole_text units
 fixed_text units (suc more) =
     sign_text (is_negative units) ++ decimal (unsigned_abs units / 10 ^ suc more)
     ++ 46 ∷ last_digits (suc more) (unsigned_abs units)
+
+-- What may be there or not.
+
+-- what holds of something that may not be there, where it is there
+abbrev pub if_there : {A : Type 0} → (A → Bool) → Option A → Bool
+if_there p None = true
+if_there p (Some a) = p a

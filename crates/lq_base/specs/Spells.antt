@@ -1,16 +1,41 @@
--- Which texts spell a number or a moment, and which name a kind, by what the texts are made of.
-use Rattle.std.specs.Prelude.{◌≡◌, ◌⊎◌, ℕ, ◌+◌, ◌≤◌, ◌==◌, Bool, IsTrue, if◌then◌else◌, ℤ, List, [], ◌∷◌, ◌++◌, length, take, drop, slice_index, codes}
+-- How `into_kind` answers, and what of a text by what it spells.
 use Rattle.std.specs.Fmt.{decimal, sign_text}
 use Rattle.std.specs.List.{list_all, list_any}
+use Rattle.std.specs.Prelude.{Bool, Err, IsOk, IsTrue, List, Ok, Result, [], codes, drop, false, if◌then◌else◌, length, slice_index, take, true, ℕ, ℤ, ◌++◌, ◌+◌, ◌==◌, ◌∷◌, ◌≡◌, ◌≤◌, ◌⊎◌}
 use Rattle.std.specs.Str.{str_eq_ignore_ascii_case}
 use Rattle.std.specs.Str.Parse.{digits_value}
+use Rattle.lq_base.specs.Kind.{is_blank, is_kind}
+use Rattle.lq_base.specs.Moment.{IsMoment, moment_text}
+use Rattle.lq_base.specs.Number.{is_digits, signed}
+use Rattle.lq_base.specs.declared.convert.IntoFault.{IntoFault}
+use Rattle.lq_base.specs.declared.convert.IntoFault.TheVariants.{OutOfMemory, TooWide, WrongKind}
 use Rattle.lq_base.specs.declared.kind.Kind.{Kind}
 use Rattle.lq_base.specs.declared.kind.Kind.TheVariants as kind
 use Rattle.lq_base.specs.declared.literal.Literal.{Literal}
 use Rattle.lq_base.specs.declared.literal.Literal.TheVariants as literal
-use Rattle.lq_base.specs.Kind.{is_kind, is_blank}
-use Rattle.lq_base.specs.Moment.{IsMoment, moment_text}
-use Rattle.lq_base.specs.Number.{is_digits, signed}
+use Rattle.lq_base.specs.declared.reason.Reason.{Reason}
+use Rattle.lq_base.specs.declared.reason.Reason.TheVariants as reason
+use Rattle.lq_base.specs.declared.value.Value.{Value}
+
+-- the value, the reason, or want of memory for a value that there is
+abbrev pub Goes : Result Value Reason → Result Value IntoFault → Type 0
+Goes meant (Ok v) = meant ≡ Ok v
+Goes meant (Err WrongKind) = meant ≡ Err reason.WrongKind
+Goes meant (Err TooWide) = meant ≡ Err reason.TooWide
+Goes meant (Err OutOfMemory) = IsOk meant
+
+abbrev pub is_number_kind : Kind → Bool
+is_number_kind kind.Int = true
+is_number_kind kind.BigInt = true
+is_number_kind (kind.Decimal digits scale) = true
+is_number_kind k = false
+
+-- the answer for a text that goes as what it spells: what that becomes, and WrongKind where it spells nothing
+pub record GoesAs {A : Type 0} (Spells : A → Type 0) (becomes : A → Result Value Reason) (answer : Result Value IntoFault) : Type 0 where
+  pub spelled : (a : A) → Spells a → Goes (becomes a) answer
+  pub none : ((a : A) → ¬ (Spells a)) → answer ≡ Err WrongKind
+
+-- Which texts spell a number or a moment, and which name a kind, by what the texts are made of.
 
 -- `-` or nothing, and then 1 to 38 digits, which write the magnitude
 pub record IsWhole (text : List ℕ) (n : ℤ) : Type 0 where

@@ -1,20 +1,19 @@
 -- Which values are of a kind, and what a literal becomes in one.
-use Rattle.std.specs.Prelude.{ℕ, ◌-◌, ◌*◌, ◌^◌, ◌==◌, ◌&&◌, ◌||◌, nat_lt, nat_le, Bool, true, false, if◌then◌else◌, ℤ, pos, neg_ℤ, int_le, unsigned_abs, List, codes, Option, Some, None, option_map, Result, Ok, Err}
-use Rattle.std.specs.Option.{option_and_then}
 use Rattle.std.specs.Int.{is_negative}
+use Rattle.std.specs.Option.{option_and_then}
 use Rattle.std.specs.Ordering.{int_eq}
+use Rattle.std.specs.Prelude.{Bool, Err, List, None, Ok, Option, Result, Some, codes, false, if◌then◌else◌, int_le, nat_le, nat_lt, neg_ℤ, option_map, pos, true, unsigned_abs, ℕ, ℤ, ◌&&◌, ◌*◌, ◌-◌, ◌==◌, ◌^◌, ◌||◌}
 use Rattle.std.specs.Str.{str_eq_ignore_ascii_case}
+use Rattle.lq_base.specs.Moment.{is_moment, moment_of}
+use Rattle.lq_base.specs.Number.{char_count, has_digits, number_of, signed}
 use Rattle.lq_base.specs.declared.kind.Kind.{Kind}
 use Rattle.lq_base.specs.declared.kind.Kind.TheVariants as kind
 use Rattle.lq_base.specs.declared.literal.Literal.{Literal}
 use Rattle.lq_base.specs.declared.literal.Literal.TheVariants as literal
 use Rattle.lq_base.specs.declared.reason.Reason.{Reason}
-use Rattle.lq_base.specs.declared.reason.Reason.TheVariants.{WrongKind, TooWide}
+use Rattle.lq_base.specs.declared.reason.Reason.TheVariants.{TooWide, WrongKind}
 use Rattle.lq_base.specs.declared.value.Value.{Value}
 use Rattle.lq_base.specs.declared.value.Value.TheVariants as value
-use Rattle.lq_base.specs.Character.{char_count}
-use Rattle.lq_base.specs.Moment.{is_moment, moment_of}
-use Rattle.lq_base.specs.Number.{has_digits, signed, number_of}
 
 -- whole numbers of 32 and of 64 bits
 abbrev pub is_int32 : ℤ → Bool

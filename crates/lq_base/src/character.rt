@@ -1,5 +1,5 @@
 ghost use Rattle.std.specs.Prelude.{◌≡◌};
-ghost use Rattle.lq_base.specs.Character.{has_control, char_count};
+ghost use Rattle.lq_base.specs.Number.{has_control, char_count};
 
 /// Whether some character of the text is a control character: one below U+0020, or U+007F.
 pub fn has_control(text: &str) -> bool

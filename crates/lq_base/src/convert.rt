@@ -1,7 +1,6 @@
 ghost use Rattle.std.specs.Prelude.{◌≡◌, List, ℕ, Ok, ◌*◌, ◌^◌, ◌<◌, if◌then◌else◌, Some, None, IfSome, IfOk, IsTrue};
-ghost use Rattle.lq_base.specs.Into.{Goes, GoesAs, is_number_kind};
+ghost use Rattle.lq_base.specs.Spells.{Goes, GoesAs, is_number_kind, SpellsMoment, SpellsNumber};
 ghost use Rattle.lq_base.specs.Number.{has_digits};
-ghost use Rattle.lq_base.specs.Spells.{SpellsMoment, SpellsNumber};
 ghost use Rattle.std.specs.Option.{option_and_then};
 ghost use Rattle.lq_base.specs.Value.{into_kind, is_value_of, said_by_number, said_by_text, truth_of_text, with_decimals, within_width};
 

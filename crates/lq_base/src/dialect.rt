@@ -1,5 +1,5 @@
 ghost use Rattle.std.specs.Prelude.{◌≡◌};
-ghost use Rattle.lq_base.specs.Dialect.{dialect_text};
+ghost use Rattle.lq_base.specs.Name.{dialect_text};
 
 /// The profile of the engine: which statements there are, how they are spelled, and how they commit.
 #[derive(Clone, Copy, Debug, PartialEq, Eq)]

@@ -1,5 +1,5 @@
 ghost use Rattle.std.specs.Prelude.{◌≡◌, ◌++◌, OnOk, OnErr};
-ghost use Rattle.lq_base.specs.Tracking.{identity_text};
+ghost use Rattle.lq_base.specs.Name.{identity_text};
 
 use crate::duplicate::{Duplicate, Same};
 use crate::memory::NoMemory;

@@ -1,5 +1,5 @@
 ghost use Rattle.std.specs.Prelude.{◌≡◌};
-ghost use Rattle.lq_base.specs.Reason.{reason_text};
+ghost use Rattle.lq_base.specs.Name.{reason_text};
 
 /// Why the engine refuses a statement or a query. Where several apply, the engine's rules say which.
 #[derive(Clone, Copy, Debug, PartialEq, Eq)]

@@ -75,7 +75,7 @@ impl Duplicate for Text {
 }
 
 impl PartialEq for Text {
-    ghost use Rattle.lq_base.specs.Text.{is_text};
+    ghost use Rattle.lq_base.specs.Name.{is_text};
     ghost use Rattle.std.proofs.Common.{rules};
     ghost use Rattle.std.specs.Cmp.Rules.{comparing};
 
@@ -96,7 +96,7 @@ impl Eq for Text {
 }
 
 impl PartialOrd for Text {
-    ghost use Rattle.lq_base.specs.Text.{text_cmp};
+    ghost use Rattle.lq_base.specs.Name.{text_cmp};
     ghost use Rattle.std.specs.Cmp.{partial_order_from_own_ties};
     ghost use Rattle.std.specs.Ordering.{as_partial_cmp};
     ghost use Rattle.std.proofs.Common.{rules};
@@ -112,7 +112,7 @@ impl PartialOrd for Text {
 }
 
 impl Ord for Text {
-    ghost use Rattle.lq_base.specs.Text.{text_cmp};
+    ghost use Rattle.lq_base.specs.Name.{text_cmp};
     ghost use Rattle.std.proofs.Common.{rules};
     ghost use Rattle.std.specs.Cmp.Rules.{comparing};
 

@@ -1,5 +1,5 @@
 ghost use Rattle.std.specs.Prelude.{◌≡◌};
-ghost use Rattle.lq_base.specs.Tracking.{exec_text};
+ghost use Rattle.lq_base.specs.Name.{exec_text};
 
 use crate::duplicate::{Duplicate, Same};
 use crate::memory::NoMemory;

@@ -10,7 +10,7 @@ use Rattle.lq_turns.specs.declared.deed.Deed.TheVariants.{Locks, Rows, Users}
 use Rattle.lq_turns.specs.declared.deed.OnRows.{OnRows}
 use Rattle.lq_turns.specs.declared.deed.OnRows.TheVariants.{Cleared, Deleted, Filled, Inserted, Renewed, Tagged}
 use Rattle.lq_turns.specs.Deed.{done, row_statement}
-use Rattle.lq_turns.specs.Held.{Agrees, StandsFor, StatementsTell, fits_rows}
+use Rattle.lq_turns.specs.Schedule.{Agrees, StandsFor, StatementsTell, fits_rows}
 use Rattle.lq_beside.proofs.LockDeeds.{locks_told}
 use Rattle.lq_beside.proofs.RowDeeds.{cleared_told, deleted_told, filled_told, tagged_told}
 use Rattle.lq_beside.proofs.RowTold.{inserted_told, renewed_told}

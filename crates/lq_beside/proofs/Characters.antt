@@ -4,10 +4,9 @@ use Rattle.std.proofs.lemmas.List.{length-append, length-take}
 use Rattle.std.proofs.lemmas.Str.{chars-encodes, scalars-chars}
 use Rattle.std.specs.Prelude.{List, [], length, nat_le, refl, suc, take, true, zero, ℕ, ◌%◌, ◌*◌, ◌+◌, ◌-◌, ◌/◌, ◌∷◌, ◌≡◌, ◌≤◌}
 use Rattle.std.specs.Str.{IsUtf8, all_scalars, chars, chars_after, continuation_len, lead_bits}
-use Rattle.lq_base.specs.Character.{char_count}
-use Rattle.lq_base.specs.Number.{last_digits}
+use Rattle.lq_base.specs.Number.{char_count, last_digits}
 use Rattle.lq_model.proofs.Lists.{and_left, and_right, and_true}
-use Rattle.lq_track.specs.Row.{cut}
+use Rattle.lq_track.specs.Database.{cut}
 
 pub at_most : (n most : ℕ) → n ≤ most → nat_le n most ≡ true
 at_most n most h = search (rules, tests)

@@ -7,7 +7,7 @@ use Rattle.lq_base.specs.declared.name.Name.{Name}
 use Rattle.lq_base.specs.declared.tracking.Exec.TheVariants.{Executed}
 use Rattle.lq_base.specs.declared.tracking.Tracked.{Tracked}
 use Rattle.lq_model.specs.Catalogue.{Catalogue, no_objects, with_new}
-use Rattle.lq_model.specs.CreateTable.{new_table}
+use Rattle.lq_model.specs.Tables.{new_table}
 use Rattle.lq_model.specs.NameSpaces.{is_taken}
 use Rattle.lq_model.specs.Plan.{decide}
 use Rattle.lq_model.specs.Step.{step}

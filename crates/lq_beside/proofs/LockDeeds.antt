@@ -19,17 +19,15 @@ use Rattle.lq_base.specs.declared.value.Value.TheVariants as value
 use Rattle.lq_model.proofs.Kept.{lookup_other}
 use Rattle.lq_model.proofs.Lists.{and_left, and_right, and_true, or_false, true_false}
 use Rattle.lq_model.proofs.Maps.{lookup-set_value, none_if, not_some, some_same}
-use Rattle.lq_model.specs.Catalogue.{Catalogue, Table, table_of, with_table}
+use Rattle.lq_model.specs.Catalogue.{Catalogue, Table, table_of, with_table, is_empty, is_in}
 use Rattle.lq_model.specs.NameSpaces.{is_taken, names_inside}
-use Rattle.lq_model.specs.Names.{is_empty, is_in}
 use Rattle.lq_model.proofs.Decide.{IsSettled}
 use Rattle.lq_model.specs.Sound.{IsSound}
 use Rattle.lq_model.specs.Step.{step}
 use Rattle.lq_model.specs.declared.statement.Statement.TheVariants.{Update}
 use Rattle.lq_model.specs.declared.caller.By.TheVariants.{Program}
-use Rattle.lq_track.specs.Columns.{moment_or_null, text_or_null}
+use Rattle.lq_track.specs.Lock.{moment_or_null, text_or_null, free, lock_column, lock_key_name, lock_name, lock_order, lock_table, lock_value, taken}
 use Rattle.lq_track.specs.Database.{Database, has_rows, is_lock, lock_from, lock_in, lock_in_rows, moment_in, rows_from, text_in}
-use Rattle.lq_track.specs.Lock.{free, lock_column, lock_key_name, lock_name, lock_order, lock_table, lock_value, taken}
 use Rattle.lq_track.specs.Log.{log_column, log_order, log_table}
 use Rattle.lq_track.specs.Statements.{lock_freed, lock_made, lock_marked, lock_row_made, lock_taken, lock_test, log_made}
 use Rattle.lq_track.specs.declared.lock_column.LockColumn.TheVariants as lock
@@ -37,7 +35,7 @@ use Rattle.lq_turns.specs.declared.deed.Deed.TheVariants.{Locks}
 use Rattle.lq_turns.specs.declared.deed.OnLock.{OnLock}
 use Rattle.lq_turns.specs.declared.deed.OnLock.TheVariants.{Freed, LockMade, LockRowMade, LogMade, Marked, Taken}
 use Rattle.lq_turns.specs.Deed.{done, lock_statement}
-use Rattle.lq_turns.specs.Held.{Agrees, StandsFor, fits_lock, own_names}
+use Rattle.lq_turns.specs.Schedule.{Agrees, StandsFor, fits_lock, own_names}
 use Rattle.lq_beside.specs.Beside.{IsBeside, is_harmless, users}
 use Rattle.lq_beside.proofs.AsMade.{lock_at, lock_row, moment_or_none, text_value}
 use Rattle.lq_beside.proofs.Made.{lock_bare, lock_beside, lock_run, lock_users, log_bare, log_beside, log_run, log_users, with_lock, with_log}

@@ -11,21 +11,18 @@ use Rattle.lq_base.specs.declared.tracking.Lock.{Lock}
 use Rattle.lq_model.proofs.Decide.{IsFree, IsSettled, settles}
 use Rattle.lq_model.proofs.Lists.{and_left, any-append, and_true, or_false, or_left, or_right}
 use Rattle.lq_model.proofs.Maps.{any_none-insert_entry, found, lookup-insert_entry, sorted-insert_entry}
-use Rattle.lq_model.specs.Catalogue.{Catalogue, Table, table_of, with_new}
-use Rattle.lq_model.specs.CreateTable.{create_table, lists_twice}
-use Rattle.lq_model.specs.NameSpaces.{are_clashing, is_taken, names_inside, object_names, shared_names}
-use Rattle.lq_model.specs.Names.{is_in}
+use Rattle.lq_model.specs.Catalogue.{Catalogue, Table, table_of, with_new, is_in, inner_names, placed}
+use Rattle.lq_model.specs.Tables.{create_table, lists_twice}
+use Rattle.lq_model.specs.NameSpaces.{are_clashing, is_taken, names_inside, object_names, shared_names, takes_lock_key}
 use Rattle.lq_model.specs.Plan.{Plan}
-use Rattle.lq_model.specs.Reserved.{takes_lock_key}
 use Rattle.lq_model.specs.Sound.{IsSound}
 use Rattle.lq_model.specs.Step.{step}
-use Rattle.lq_model.specs.TableNames.{inner_names, placed}
 use Rattle.lq_model.specs.declared.caller.By.TheVariants.{Program}
 use Rattle.lq_track.specs.Database.{lock_from}
 use Rattle.lq_track.specs.Lock.{lock_column, lock_key, lock_key_name, lock_order, lock_table}
 use Rattle.lq_track.specs.Log.{log_column, log_order, log_table}
 use Rattle.lq_track.specs.Statements.{lock_made, log_made}
-use Rattle.lq_turns.specs.Held.{own_names}
+use Rattle.lq_turns.specs.Schedule.{own_names}
 use Rattle.lq_beside.specs.Beside.{IsBeside, is_harmless, is_tracker, is_users, targets_tracker, users}
 use Rattle.lq_beside.proofs.AsMade.{lock_at, log_at}
 use Rattle.lq_beside.proofs.Parts.{insert_out}

@@ -7,7 +7,7 @@ use Rattle.lq_model.proofs.Maps.{not_some, sorted_keys}
 use Rattle.lq_model.specs.Catalogue.{Sequence, Table, View, no_objects}
 use Rattle.lq_model.specs.NameSpaces.{AreApart}
 use Rattle.lq_model.specs.Sound.{IsSound}
-use Rattle.lq_beside.specs.Nothing.{NothingStands}
+use Rattle.lq_beside.specs.Beside.{NothingStands}
 
 apart : (d : Dialect) → AreApart d no_objects
 apart Postgresql = λ n. omega arith

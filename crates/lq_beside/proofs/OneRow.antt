@@ -14,8 +14,7 @@ use Rattle.lq_turns.proofs.Undone.{one_itself}
 use Rattle.lq_track.specs.Database.{has_twin_rows, same_identity}
 use Rattle.lq_model.specs.Catalogue.{Catalogue}
 use Rattle.lq_track.specs.Log.{identity_of}
-use Rattle.lq_turns.specs.Contents.{Contents}
-use Rattle.lq_turns.specs.Deed.{filled, is_of, others, renewed, rows_after, theirs}
+use Rattle.lq_turns.specs.Deed.{Contents, filled, is_of, others, renewed, rows_after, theirs}
 use Rattle.lq_turns.specs.Session.{before}
 use Rattle.lq_turns.specs.Set.{row_at}
 use Rattle.lq_turns.specs.declared.deed.OnRows.{OnRows}

@@ -9,9 +9,8 @@ use Rattle.lq_track.specs.Database.{Database}
 use Rattle.lq_turns.proofs.Made.{At}
 use Rattle.lq_turns.proofs.TurnLeft.{twice}
 use Rattle.lq_turns.proofs.Updates.{opened}
-use Rattle.lq_turns.specs.Contents.{Contents, contents_of, with_contents}
-use Rattle.lq_turns.specs.Deed.{contents_after, done, if_accepted, locked_after}
-use Rattle.lq_turns.specs.Held.{all_fit}
+use Rattle.lq_turns.specs.Deed.{Contents, contents_of, with_contents, contents_after, done, if_accepted, locked_after}
+use Rattle.lq_turns.specs.Schedule.{all_fit}
 use Rattle.lq_turns.specs.Script.{closing, opening, with_lock}
 use Rattle.lq_turns.specs.Session.{Session, aborted, accepted, all_called, all_executed, all_executed_as, before, called, closed, executed, executed_as, is_own, session_on, settled_if}
 use Rattle.lq_turns.specs.declared.call.Call.{Call}
@@ -20,8 +19,7 @@ use Rattle.lq_turns.specs.declared.deed.Deed.{Deed}
 use Rattle.lq_turns.specs.declared.deed.Deed.TheVariants.{Locks, Rows, Users}
 use Rattle.lq_turns.specs.declared.deed.OnLock.TheVariants.{Freed, LockMade, LockRowMade, LogMade, Marked, Taken}
 use Rattle.lq_turns.specs.declared.stamp.Stamp.{Stamp}
-use Rattle.lq_beside.specs.Fitting.{IsTime}
-use Rattle.lq_beside.specs.Replays.{call_fits, calls_fit}
+use Rattle.lq_beside.specs.Replays.{IsTime, call_fits, calls_fit}
 
 ok_same : {A : Type 0} {x y : A} → (let r : Result A Reason = Ok x in r) ≡ Ok y → x ≡ y
 ok_same e = Prim.cc

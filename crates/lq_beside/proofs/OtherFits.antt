@@ -2,7 +2,7 @@
 use Rattle.std.proofs.Common.{ap, rules, subst, sym, tests, ◌∙◌}
 use Rattle.std.specs.List.{All, list_all}
 use Rattle.std.specs.Prelude.{Bool, Err, List, None, Ok, Option, Result, Some, [], false, if◌then◌else◌, is_some, length, map, nat_le, nat_lt, not, option_and_then, option_map, refl, true, ℕ, ◌&&◌, ◌+◌, ◌++◌, ◌∷◌, ◌≡◌}
-use Rattle.lq_base.specs.Character.{char_count}
+use Rattle.lq_base.specs.Number.{char_count}
 use Rattle.lq_base.specs.declared.dialect.Dialect.{Dialect}
 use Rattle.lq_base.specs.declared.reason.Reason.{Reason}
 use Rattle.lq_base.specs.declared.reason.Reason.TheVariants.{TooManyRows, TooWide}
@@ -11,17 +11,14 @@ use Rattle.lq_base.specs.declared.tracking.Lock.{Lock}
 use Rattle.lq_base.specs.declared.tracking.Tracked.{Tracked}
 use Rattle.lq_base.specs.declared.value.Value.{Value}
 use Rattle.lq_model.proofs.Lists.{and_left, and_right, and_true, true_false}
-use Rattle.lq_model.specs.Catalogue.{Catalogue, Table, table_of}
-use Rattle.lq_model.specs.Names.{is_empty}
-use Rattle.lq_model.specs.Statement.{is_statement}
+use Rattle.lq_model.specs.Catalogue.{Catalogue, Table, table_of, is_empty}
+use Rattle.lq_model.specs.Step.{is_statement}
 use Rattle.lq_track.specs.Database.{Database, database_of, has_rows, lock_from, lock_in_rows, lock_of, is_lock, rows_from, rows_of, users_of}
 use Rattle.lq_track.specs.Lock.{lock_table}
 use Rattle.lq_track.specs.Log.{log_table}
-use Rattle.lq_turns.specs.Contents.{Contents, contents_of}
-use Rattle.lq_turns.specs.Deed.{contents_after, has_place, if_accepted}
-use Rattle.lq_turns.specs.Held.{fits_rows}
-use Rattle.lq_turns.specs.Rollback.{calls_if_finished, turns_made}
-use Rattle.lq_turns.specs.Script.{clearing, closing, last_row, rows_to_sync, sync_of, tag_of}
+use Rattle.lq_turns.specs.Deed.{Contents, contents_of, contents_after, has_place, if_accepted}
+use Rattle.lq_turns.specs.Schedule.{fits_rows}
+use Rattle.lq_turns.specs.Script.{calls_if_finished, turns_made, clearing, closing, last_row, rows_to_sync, sync_of, tag_of}
 use Rattle.lq_turns.specs.Session.{Session, all_called, session_on}
 use Rattle.lq_turns.specs.Set.{Set, has_row}
 use Rattle.lq_turns.specs.Settle.{greatest, row_for}
@@ -35,8 +32,7 @@ use Rattle.lq_turns.specs.declared.stamp.Stamp.{Stamp}
 use Rattle.lq_turns.specs.declared.turn.Turn.{Turn}
 use Rattle.lq_turns.proofs.Made.{At}
 use Rattle.lq_turns.proofs.TurnLeft.{turn_taken, twice}
-use Rattle.lq_beside.specs.Fitting.{ClearFits, HasTexts, IsTime, ReleaseFits, RollbackFits, SyncFits, TagFits, is_deleted, is_return}
-use Rattle.lq_beside.specs.Replays.{calls_fit}
+use Rattle.lq_beside.specs.Replays.{ClearFits, HasTexts, IsTime, ReleaseFits, RollbackFits, SyncFits, TagFits, is_deleted, is_return, calls_fit}
 use Rattle.lq_beside.proofs.Characters.{at_most}
 use Rattle.lq_beside.proofs.Opened.{BothHave, calls_have, fits_both, locked_fits}
 use Rattle.lq_beside.proofs.ShortRows.{first_has, others_have, row_is_short}

@@ -18,16 +18,13 @@ use Rattle.lq_model.proofs.Decide.{IsFree, IsSettled, settles}
 use Rattle.lq_model.proofs.Kept.{lookup_other}
 use Rattle.lq_model.proofs.Lists.{and_left, and_no_right, and_right, and_true, any_less, filter_kept, map_kept, none_all, or_false, or_left, or_right, true_false}
 use Rattle.lq_model.proofs.Maps.{lookup-set_value}
-use Rattle.lq_model.specs.Catalogue.{Catalogue, Table, no_table, table_of, the_table, with_table}
+use Rattle.lq_model.specs.Catalogue.{Catalogue, Table, no_table, table_of, the_table, with_table, column_missing}
 use Rattle.lq_model.specs.Comparison.{Dates, Texts, compares_wrongly, go_together, kinds_agree, sort_of_literal}
-use Rattle.lq_model.specs.Delete.{cascaded, delete, is_lost, row_count, without_lost, without_lost_in, without_taken}
-use Rattle.lq_model.specs.Plan.{Plan}
-use Rattle.lq_model.specs.ResultTests.{has_orphan, has_orphans, lacks_parent}
+use Rattle.lq_model.specs.Rows.{cascaded, delete, is_lost, row_count, without_lost, without_lost_in, without_taken, set_all}
+use Rattle.lq_model.specs.Plan.{Plan, has_orphan, has_orphans, lacks_parent}
 use Rattle.lq_model.specs.Sound.{IsSound}
 use Rattle.lq_model.specs.Step.{step}
-use Rattle.lq_model.specs.TableNames.{column_missing}
 use Rattle.lq_model.specs.Truth.{both_true, is_true, names_in, takes, test_names, truth, truth_of_and}
-use Rattle.lq_model.specs.Update.{set_all}
 use Rattle.lq_model.specs.declared.caller.By.TheVariants.{Program}
 use Rattle.lq_model.specs.declared.column.Column.{Column}
 use Rattle.lq_model.specs.declared.statement.Statement.TheVariants.{Update}
@@ -40,7 +37,7 @@ use Rattle.lq_track.specs.declared.log_column.LogColumn.TheVariants as log
 use Rattle.lq_turns.specs.declared.deed.Deed.TheVariants.{Rows}
 use Rattle.lq_turns.specs.declared.deed.OnRows.TheVariants.{Cleared, Deleted, Filled, Tagged}
 use Rattle.lq_turns.specs.Deed.{done, is_of, others, without_sum}
-use Rattle.lq_turns.specs.Held.{Agrees, StandsFor, fits_rows}
+use Rattle.lq_turns.specs.Schedule.{Agrees, StandsFor, fits_rows}
 use Rattle.lq_beside.specs.Beside.{IsBeside, is_harmless, users}
 use Rattle.lq_beside.proofs.AsMade.{log_at, log_columns, log_row, log_rows}
 use Rattle.lq_beside.proofs.Program.{Edits, database_is, read_as, set_tracker, set_users_same, stands_with, updates}

@@ -13,17 +13,13 @@ use Rattle.lq_model.proofs.Decide.{IsFree, IsSettled}
 use Rattle.lq_model.proofs.Kept.{lookup_other}
 use Rattle.lq_model.proofs.Lists.{and_no_right, any_less, any_same, or_false, or_left, true_false}
 use Rattle.lq_model.proofs.Maps.{any_none-set_value, lookup-set_value, not_some, some_same}
-use Rattle.lq_model.specs.Catalogue.{Catalogue, Table, no_table, table_of, the_table, with_table}
+use Rattle.lq_model.specs.Catalogue.{Catalogue, Table, no_table, table_of, the_table, with_table, is_in, repeats, same_names, column_missing, target_lists}
 use Rattle.lq_model.specs.Comparison.{compares_wrongly}
-use Rattle.lq_model.specs.Insert.{insert, row_of, stated, with_row}
-use Rattle.lq_model.specs.Literals.{is_wide, is_wrong}
-use Rattle.lq_model.specs.Names.{is_in, repeats, same_names}
-use Rattle.lq_model.specs.Plan.{Plan, decide}
-use Rattle.lq_model.specs.ResultTests.{has_null, has_orphan, has_orphans, has_twins, is_full, is_loose, is_overfull, lacks_parent, misses_target, table_has_null, table_has_twins}
+use Rattle.lq_model.specs.Rows.{insert, row_of, stated, with_row, edited, set_value_of, update}
+use Rattle.lq_model.specs.Kinds.{is_wide, is_wrong}
+use Rattle.lq_model.specs.Plan.{Plan, decide, has_null, has_orphan, has_orphans, has_twins, is_full, is_loose, is_overfull, lacks_parent, misses_target, table_has_null, table_has_twins}
 use Rattle.lq_model.specs.Step.{step}
-use Rattle.lq_model.specs.TableNames.{column_missing, target_lists}
 use Rattle.lq_model.specs.Truth.{names_in}
-use Rattle.lq_model.specs.Update.{edited, set_value_of, update}
 use Rattle.lq_model.specs.declared.caller.By.TheVariants.{Program}
 use Rattle.lq_model.specs.declared.constraint.ForeignKey.{ForeignKey}
 use Rattle.lq_model.specs.declared.statement.Statement.TheVariants.{Insert, Update}

@@ -3,7 +3,7 @@ use Rattle.std.proofs.Common.{ap, arith, rules, subst, sym, tests, ◌∙◌}
 use Rattle.std.specs.List.{list_all, list_any}
 use Rattle.std.specs.Prelude.{Bool, Err, List, Ok, Result, Some, [], cond, false, if◌then◌else◌, length, map, max, nat_le, nat_lt, not, refl, suc, true, ℕ, ◌+◌, ◌++◌, ◌==◌, ◌||◌, ◌∷◌, ◌≡◌, ◌≤◌}
 use Rattle.std.proofs.lemmas.List.{length-append}
-use Rattle.lq_base.specs.Tracking.{exec_text}
+use Rattle.lq_base.specs.Name.{exec_text}
 use Rattle.lq_base.specs.declared.dialect.Dialect.{Dialect}
 use Rattle.lq_base.specs.declared.identity.Identity.{Identity}
 use Rattle.lq_base.specs.declared.literal.Literal.{Literal}
@@ -15,20 +15,16 @@ use Rattle.lq_base.specs.declared.value.Value.{Value}
 use Rattle.lq_base.specs.declared.value.Value.TheVariants as value
 use Rattle.lq_model.proofs.Decide.{IsSettled}
 use Rattle.lq_model.proofs.Lists.{all_one_more, and_left, and_right, and_true, map_append_one, or_false}
-use Rattle.lq_model.specs.Catalogue.{Catalogue, table_of, with_table}
-use Rattle.lq_model.specs.Insert.{row_of, stated, with_row}
-use Rattle.lq_model.specs.Literals.{is_wide, is_wrong, value_in}
-use Rattle.lq_model.specs.Names.{repeats}
+use Rattle.lq_model.specs.Catalogue.{Catalogue, table_of, with_table, repeats, column_missing}
+use Rattle.lq_model.specs.Rows.{row_of, stated, with_row, set_all, set_value_of}
+use Rattle.lq_model.specs.Kinds.{is_wide, is_wrong, value_in}
 use Rattle.lq_model.specs.Step.{step}
-use Rattle.lq_model.specs.TableNames.{column_missing}
-use Rattle.lq_model.specs.Update.{set_all, set_value_of}
 use Rattle.lq_model.specs.declared.caller.By.TheVariants.{Program}
 use Rattle.lq_track.specs.Database.{Database, in_run_order, placed}
 use Rattle.lq_track.specs.Log.{again_order, identity_of, log_column, log_name, log_order, log_set, log_table, log_value}
 use Rattle.lq_track.specs.Statements.{row_again, row_inserted, row_test}
-use Rattle.lq_turns.specs.Contents.{contents_of, with_contents}
-use Rattle.lq_turns.specs.Deed.{done, has_place, if_accepted, is_of, others, renewed, theirs}
-use Rattle.lq_turns.specs.Held.{Agrees, StandsFor, fits_rows, is_short, is_stamped}
+use Rattle.lq_turns.specs.Deed.{contents_of, with_contents, done, has_place, if_accepted, is_of, others, renewed, theirs}
+use Rattle.lq_turns.specs.Schedule.{Agrees, StandsFor, fits_rows, is_short, is_stamped}
 use Rattle.lq_turns.specs.declared.deed.Deed.TheVariants.{Rows}
 use Rattle.lq_turns.specs.declared.deed.OnRows.TheVariants.{Inserted, Renewed}
 use Rattle.lq_turns.specs.Settle.{greatest}

@@ -10,18 +10,18 @@ use Rattle.lq_base.specs.declared.tracking.Tracked.{Tracked}
 use Rattle.lq_model.proofs.Maps.{some_same}
 use Rattle.lq_model.specs.Catalogue.{Catalogue, Table, table_of}
 use Rattle.lq_model.specs.Comparison.{compares_wrongly}
-use Rattle.lq_model.specs.Query.{Source, answer, answer_from, lacks_column, no_source, source_of}
-use Rattle.lq_model.specs.Reasons.{unless}
+use Rattle.lq_model.specs.Views.{Source, answer, answer_from, lacks_column, no_source, source_of}
+use Rattle.lq_model.specs.Plan.{unless}
 use Rattle.lq_model.specs.Truth.{names_in, takes}
 use Rattle.lq_model.specs.declared.caller.By.TheVariants.{Program}
 use Rattle.lq_model.specs.declared.column.Column.{Column}
 use Rattle.lq_track.proofs.AllRows.{lacks_none}
-use Rattle.lq_track.specs.Asked.{answered_rows, rows_asked, rows_query}
+use Rattle.lq_track.specs.Statements.{answered_rows, rows_asked, rows_query}
 use Rattle.lq_track.specs.Database.{Database, in_run_order, rows_from, rows_in}
 use Rattle.lq_track.specs.Log.{log_table}
 use Rattle.lq_turns.specs.Deed.{is_of, theirs}
-use Rattle.lq_turns.specs.Held.{StandsFor}
-use Rattle.lq_beside.specs.Asked.{RowsAnswered}
+use Rattle.lq_turns.specs.Schedule.{StandsFor}
+use Rattle.lq_beside.specs.Beside.{RowsAnswered}
 use Rattle.lq_beside.proofs.AsMade.{log_at, log_columns, log_row, log_rows}
 use Rattle.lq_beside.proofs.RowDeeds.{compared, names_there, takes_it, test}
 use Rattle.lq_beside.proofs.RowValues.{rows_back}

@@ -2,14 +2,14 @@
 use Rattle.std.proofs.Common.{arith, rules, tests}
 use Rattle.std.specs.List.{All}
 use Rattle.std.specs.Prelude.{IfSome, List, None, Option, Some, codes, pos, refl, suc, true, ℕ, ◌∷◌, ◌≡◌, ◌≤◌}
-use Rattle.lq_base.specs.Character.{char_count}
+use Rattle.lq_base.specs.Number.{char_count}
 use Rattle.lq_base.specs.Moment.{is_moment}
 use Rattle.lq_base.specs.declared.tracking.Exec.{Exec}
 use Rattle.lq_model.proofs.Lists.{and_true}
-use Rattle.lq_turns.specs.Held.{is_short, is_within}
+use Rattle.lq_turns.specs.Schedule.{is_short, is_within}
 use Rattle.lq_turns.specs.Set.{Set}
 use Rattle.lq_turns.specs.Settle.{row_for}
-use Rattle.lq_beside.specs.Fitting.{HasTexts, IsTime}
+use Rattle.lq_beside.specs.Replays.{HasTexts, IsTime}
 use Rattle.lq_beside.proofs.Characters.{at_most, cut_within, digits_within, within}
 use Rattle.lq_beside.proofs.Moments as moments
 

@@ -15,18 +15,15 @@ use Rattle.lq_base.specs.declared.tracking.Tracked.{Tracked}
 use Rattle.lq_base.specs.declared.value.Value.{Value}
 use Rattle.lq_model.proofs.Lists.{all-append, and_true, any_less, any_none, or_false, other_way, same_name, true_false}
 use Rattle.lq_model.proofs.Maps.{lookup-remove_entry, not_some, same_maps, sorted-remove_entry, sorted_entries}
-use Rattle.lq_model.specs.Catalogue.{Catalogue, Table, no_table, table_of}
-use Rattle.lq_model.specs.Names.{same_names}
-use Rattle.lq_model.specs.ResultTests.{misses_target}
-use Rattle.lq_model.specs.Row.{has_bad_null}
-use Rattle.lq_model.specs.Reserved.{lock_key}
+use Rattle.lq_model.specs.Catalogue.{Catalogue, Table, no_table, table_of, same_names, has_bad_null, inner_names, target_lists}
+use Rattle.lq_model.specs.Plan.{misses_target}
+use Rattle.lq_model.specs.NameSpaces.{lock_key}
 use Rattle.lq_model.specs.Sound.{IsSound}
-use Rattle.lq_model.specs.TableNames.{inner_names, target_lists}
 use Rattle.lq_model.specs.declared.constraint.ForeignKey.{ForeignKey}
 use Rattle.lq_track.specs.Database.{Database, has_rows, in_run_order, is_lock, is_log, lock_from, lock_in_rows, lock_of, placed, rows_from, rows_in, rows_of, users_of}
 use Rattle.lq_track.specs.Lock.{lock_column, lock_key_name, lock_order, lock_table}
 use Rattle.lq_track.specs.Log.{log_column, log_order, log_table}
-use Rattle.lq_turns.specs.Held.{StandsFor}
+use Rattle.lq_turns.specs.Schedule.{StandsFor}
 use Rattle.lq_beside.specs.Beside.{IsBeside, is_harmless, is_tracker, is_users, only, takes_no_name, targets_tracker, users}
 use Rattle.lq_beside.proofs.AsMade.{lock_at, log_at, log_columns, log_rows}
 use Rattle.lq_beside.proofs.Parts.{any_only, lookup_only, sorted_only}

@@ -11,20 +11,18 @@ use Rattle.lq_model.proofs.KeepsSound.{statement_keeps}
 use Rattle.lq_model.proofs.Lists.{any-append, any_less, or_false, or_left, or_right}
 use Rattle.lq_model.proofs.Maps.{found, none_if, sorted_entries}
 use Rattle.lq_model.proofs.Times.{apart_right, none_times, times-append, times_some}
-use Rattle.lq_model.specs.Catalogue.{Catalogue, Table, table_of}
+use Rattle.lq_model.specs.Catalogue.{Catalogue, Table, table_of, is_in, times}
 use Rattle.lq_model.specs.NameSpaces.{AreApart, is_taken, names_inside, object_names}
-use Rattle.lq_model.specs.Names.{is_in, times}
-use Rattle.lq_model.specs.ResultTests.{misses_target}
+use Rattle.lq_model.specs.Plan.{misses_target}
 use Rattle.lq_model.specs.Sound.{IsSound}
 use Rattle.lq_model.specs.declared.constraint.ForeignKey.{ForeignKey}
-use Rattle.lq_model.specs.Statement.{is_statement}
-use Rattle.lq_model.specs.Step.{step}
+use Rattle.lq_model.specs.Step.{is_statement, step}
 use Rattle.lq_model.specs.declared.caller.By.TheVariants.{Program, User}
 use Rattle.lq_model.specs.declared.statement.Statement.{Statement}
 use Rattle.lq_track.specs.Lock.{free, lock_column, lock_key_name, lock_order, lock_table}
 use Rattle.lq_track.specs.Log.{log_column, log_order, log_table}
 use Rattle.lq_track.specs.Statements.{lock_made, log_made}
-use Rattle.lq_turns.specs.Held.{own_names}
+use Rattle.lq_turns.specs.Schedule.{own_names}
 use Rattle.lq_beside.specs.Beside.{IsBeside, SameAnswer, is_tracker, is_users, only, targets_tracker, trackers, users}
 use Rattle.lq_beside.proofs.Made.{lock_bare, lock_beside, lock_run, lock_users, log_bare, log_beside, log_run, log_users, with_lock, with_log}
 use Rattle.lq_beside.proofs.Parts.{lookup_only}

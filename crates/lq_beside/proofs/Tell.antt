@@ -12,17 +12,15 @@ use Rattle.lq_model.proofs.Maps.{sorted_keys}
 use Rattle.lq_model.specs.Catalogue.{Catalogue, Table, table_of}
 use Rattle.lq_model.specs.NameSpaces.{is_taken}
 use Rattle.lq_model.specs.Sound.{IsSound}
-use Rattle.lq_model.specs.Statement.{is_statement}
-use Rattle.lq_model.specs.Step.{step}
+use Rattle.lq_model.specs.Step.{is_statement, step}
 use Rattle.lq_model.specs.declared.caller.By.TheVariants.{User}
 use Rattle.lq_model.specs.declared.statement.Statement.{Statement}
 use Rattle.lq_track.specs.Database.{Database, users_of}
 use Rattle.lq_track.specs.Lock.{lock_table}
 use Rattle.lq_track.specs.Log.{log_table}
-use Rattle.lq_turns.specs.Contents.{contents_of, with_contents}
+use Rattle.lq_turns.specs.Deed.{contents_of, with_contents, done, if_accepted, locked_after}
 use Rattle.lq_turns.specs.declared.deed.Deed.TheVariants.{Users}
-use Rattle.lq_turns.specs.Deed.{done, if_accepted, locked_after}
-use Rattle.lq_turns.specs.Held.{Agrees, StandsFor, own_names}
+use Rattle.lq_turns.specs.Schedule.{Agrees, StandsFor, own_names}
 use Rattle.lq_beside.specs.Beside.{IsBeside, SameAnswer, is_tracker, users}
 use Rattle.lq_beside.proofs.Parts.{lookup_in}
 use Rattle.lq_beside.proofs.Stands.{beside_of, both_there, database_from, log_there, lock_there, other_users, users_are, users_same}

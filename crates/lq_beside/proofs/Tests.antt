@@ -7,12 +7,8 @@ use Rattle.lq_base.specs.Name.{is_named}
 use Rattle.lq_base.specs.declared.dialect.Dialect.{Dialect}
 use Rattle.lq_base.specs.declared.name.Name.{Name}
 use Rattle.lq_base.specs.declared.reason.Reason.{Reason}
-use Rattle.lq_model.specs.Catalogue.{Catalogue, Table, no_table, table_of, the_table}
-use Rattle.lq_model.specs.Names.{is_empty, is_in, same_names}
-use Rattle.lq_model.specs.Plan.{Plan, against, decide, lacks_parents, leaves_children}
-use Rattle.lq_model.specs.Reasons.{unless}
-use Rattle.lq_model.specs.ResultTests.{has_null, has_orphan, has_twins, is_full, is_loose, is_overfull, lacks_parent, misses_target, table_has_null, table_has_twins}
-use Rattle.lq_model.specs.TableNames.{target_lists}
+use Rattle.lq_model.specs.Catalogue.{Catalogue, Table, no_table, table_of, the_table, is_empty, is_in, same_names, target_lists}
+use Rattle.lq_model.specs.Plan.{Plan, against, decide, lacks_parents, leaves_children, unless, has_null, has_orphan, has_twins, is_full, is_loose, is_overfull, lacks_parent, misses_target, table_has_null, table_has_twins}
 use Rattle.lq_model.specs.declared.constraint.ForeignKey.{ForeignKey}
 use Rattle.lq_model.proofs.Lists.{and_left, and_no_right, and_right, any_none, any_same, or_false, same_name, true_false}
 use Rattle.lq_track.specs.Database.{has_no_more}

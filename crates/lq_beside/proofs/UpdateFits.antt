@@ -13,14 +13,13 @@ use Rattle.lq_turns.proofs.Effects.{all_spelled}
 use Rattle.lq_turns.proofs.Made.{At}
 use Rattle.lq_turns.proofs.TurnLeft.{twice}
 use Rattle.lq_turns.proofs.Updates.{settled_is, sound_by, taken_by, turn_left}
-use Rattle.lq_turns.specs.Contents.{Contents, contents_of}
-use Rattle.lq_turns.specs.Deed.{theirs}
+use Rattle.lq_turns.specs.Deed.{Contents, contents_of, theirs}
 use Rattle.lq_turns.specs.Laws.{AreRead}
-use Rattle.lq_turns.specs.Held.{fits_rows, is_short, is_stamped, is_within}
+use Rattle.lq_turns.specs.Schedule.{fits_rows, is_short, is_stamped, is_within}
 use Rattle.lq_turns.specs.Script.{calls_of_turn, calls_unless, has_work, set_calls, sets_calls, turn_by, with_lock}
 use Rattle.lq_turns.specs.Session.{Session, all_called, session_on}
 use Rattle.lq_turns.specs.Set.{IsKept, Meaning, Set, row_at}
-use Rattle.lq_base.specs.Character.{char_count}
+use Rattle.lq_base.specs.Number.{char_count}
 use Rattle.lq_base.specs.Moment.{is_moment}
 use Rattle.lq_base.specs.declared.run.Why.TheVariants.{Error, Failed}
 use Rattle.lq_turns.specs.Settle.{choice, choice_of, exec_of, fill_turn, greatest, is_to_fill, mark_turn, run_turn, runs_again, is_halt, own_choice, reacted, record_in, row_for, settle, tested, what, what_by}
@@ -32,11 +31,10 @@ use Rattle.lq_turns.specs.declared.choice.What.{What}
 use Rattle.lq_turns.specs.declared.choice.What.TheVariants.{Again, Fill, New}
 use Rattle.lq_turns.specs.declared.stamp.Stamp.{Stamp}
 use Rattle.lq_turns.specs.declared.stop.Stop.{Stop}
-use Rattle.lq_beside.specs.Fitting.{HasTexts, IsTime, UpdateFits}
+use Rattle.lq_beside.specs.Replays.{HasTexts, IsTime, UpdateFits, calls_fit}
 use Rattle.lq_beside.proofs.OneRow.{IsRight, Once, once_apart, once_ending}
 use Rattle.lq_beside.proofs.Opened.{BothHave, calls_have, fits_both, locked_fits}
 use Rattle.lq_beside.proofs.ShortRows.{first_has, others_have, row_is_short}
-use Rattle.lq_beside.specs.Replays.{calls_fit}
 use Rattle.lq_beside.proofs.TurnFits.{IsReady, turn_fits}
 
 none_some : {A B : Type 0} {x : A} → (let o : Option A = None in o) ≡ Some x → B

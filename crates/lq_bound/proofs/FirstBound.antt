@@ -9,12 +9,11 @@ use Rattle.lq_base.specs.declared.tracking.Tracked.{Tracked}
 use Rattle.lq_kinds.specs.declared.any_change.AnyChange.{AnyChange}
 use Rattle.lq_kinds.specs.declared.change_set.ChangeSet.{ChangeSet}
 use Rattle.lq_model.specs.declared.statement.Statement.{Statement}
-use Rattle.lq_plan.specs.Work.{item_at, work_from}
+use Rattle.lq_plan.specs.Told.{item_at, work_from}
 use Rattle.lq_plan.specs.declared.turns.Item.{Item}
 use Rattle.lq_expr.specs.declared.options.Options.{Options}
 use Rattle.lq_seen.specs.View.{any_meaning, view, views}
-use Rattle.lq_turns.specs.Effects.{undoing}
-use Rattle.lq_turns.specs.Set.{Set}
+use Rattle.lq_turns.specs.Set.{undoing, Set}
 use Rattle.lq_turns.specs.Settle.{what}
 use Rattle.lq_turns.specs.declared.choice.What.{What}
 use Rattle.lq_turns.specs.declared.choice.What.TheVariants.{Again, Fill, New}

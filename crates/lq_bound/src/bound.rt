@@ -4,7 +4,7 @@ ghost use Rattle.lq_base.specs.declared.tracking.Tracked.{Tracked as Row};
 ghost use Rattle.lq_bound.specs.Bound.{first_bound};
 ghost use Rattle.lq_bound.specs.Turns.{bound_at, bound_in, is_bound};
 ghost use Rattle.lq_expr.specs.declared.options.Options.{Options};
-ghost use Rattle.lq_plan.specs.Work.{work};
+ghost use Rattle.lq_plan.specs.Told.{work};
 ghost use Rattle.lq_seen.specs.View.{views};
 
 use lq_back::is_undoable;

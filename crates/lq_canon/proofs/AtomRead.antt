@@ -3,7 +3,7 @@ use Rattle.std.proofs.Common.{◌≡◌, ℕ, suc, ◌+◌, ◌-◌, ◌*◌, �
 use Rattle.std.specs.Int.Digits.{AllBelowBase, number_from_digits_after}
 use Rattle.std.specs.Prelude.{nat_le, nat_lt}
 use Rattle.lq_model.proofs.Numerals.{digits_below_ten, number_of_digits}
-use Rattle.lq_model.specs.Canon.{atom, decimal_digits, numeral}
+use Rattle.lq_model.specs.Changes.{atom, decimal_digits, numeral}
 use Rattle.lq_canon.specs.Passing.{atom_at, number_at, split}
 
 no_colon : (d : ℕ) → d < 10 → (48 + d == 58) ≡ false

@@ -1,8 +1,8 @@
 -- What is left of pairs and changes while they are read.
 use Rattle.std.proofs.Common.{Bool, List, None, Option, Some, [], arith, ap, append_assoc, append-nil, codes, false, map, not, option_map, refl, sym, true, ℕ, ◌&&◌, ◌++◌, ◌||◌, ◌∙◌, ◌≡◌, ◌∷◌}
 use Rattle.std.specs.Str.{bytes_eq}
-use Rattle.lq_model.specs.Canon.{CanonicalChange, CanonicalPairs, CanonicalValue, atom, canonical, canonical_change, canonical_each, canonical_pairs, list, map_of, no_pairs, number, pair, text, truth}
-use Rattle.lq_canon.specs.Parts.{pair_of, part_of}
+use Rattle.lq_model.specs.Changes.{CanonicalChange, CanonicalPairs, CanonicalValue, atom, canonical, canonical_change, canonical_each, canonical_pairs, list, map_of, no_pairs, number, pair, text, truth}
+use Rattle.lq_canon.specs.Passing.{pair_of, part_of}
 use Rattle.lq_canon.specs.Sums.{has_sql_name, has_wide, is_replaced, is_wide, uniform_pairs, uniform_value, uniformed}
 use Rattle.lq_canon.specs.declared.reading.Pair.{Pair}
 use Rattle.lq_canon.specs.declared.reading.Part.{Part}

@@ -1,8 +1,7 @@
 -- What stands first in a canonical text: a pair, a change, a text.
 use Rattle.std.proofs.Common.{List, None, Option, Some, [], arith, ap, append_assoc, append-nil, drop, get_or, refl, sym, true, false, ℕ, ◌≡◌, ◌∙◌, ◌++◌, ◌∷◌}
-use Rattle.lq_model.specs.Canon.{CanonicalChange, CanonicalValue, atom, canonical, canonical_change, canonical_pairs, list, map_of, number, text, truth}
-use Rattle.lq_canon.specs.Parts.{text_in}
-use Rattle.lq_canon.specs.Passing.{atom_at}
+use Rattle.lq_model.specs.Changes.{CanonicalChange, CanonicalValue, atom, canonical, canonical_change, canonical_pairs, list, map_of, number, text, truth}
+use Rattle.lq_canon.specs.Passing.{text_in, atom_at}
 use Rattle.lq_canon.proofs.AtomRead.{atom_read}
 
 pub is_there : (bytes t x : List ℕ) → bytes ≡ atom t ++ x → None ≡ atom_at bytes → ⊥

@@ -1,6 +1,6 @@
 -- A value is passed as a whole.
 use Rattle.std.proofs.Common.{◌≡◌, ℕ, suc, ◌+◌, ◌<◌, ◌==◌, ◌||◌, Bool, true, false, cond, List, [], ◌∷◌, ◌++◌, drop, Option, Some, option_and_then, refl, sym, ap, ◌∙◌, arith, tests, append_assoc}
-use Rattle.lq_model.specs.Canon.{CanonicalPairs, CanonicalValue, CanonicalValues, atom, canonical, canonical_pairs, canonical_values, list, map_of, no_pairs, no_values, number, pair, signed_numeral, text, truth, value}
+use Rattle.lq_model.specs.Changes.{CanonicalPairs, CanonicalValue, CanonicalValues, atom, canonical, canonical_pairs, canonical_values, list, map_of, no_pairs, no_values, number, pair, signed_numeral, text, truth, value}
 use Rattle.lq_canon.specs.Passing.{atom_at, behind, behind_atom, closed, is_before_atom, is_closing, is_opening, passed}
 use Rattle.lq_canon.proofs.AtomRead.{atom_read, begins}
 

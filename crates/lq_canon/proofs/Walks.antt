@@ -1,6 +1,6 @@
 -- A walk over a value, step by step.
 use Rattle.std.proofs.Common.{List, None, Some, arith, ap, option_and_then, refl, sym, zero, suc, ℕ, ◌≡◌, ◌∙◌, ◌++◌, ◌+◌}
-use Rattle.lq_model.specs.Canon.{CanonicalValue, canonical}
+use Rattle.lq_model.specs.Changes.{CanonicalValue, canonical}
 use Rattle.lq_canon.specs.Passing.{behind, passed, stepped}
 use Rattle.lq_canon.proofs.ValuePassed.{steps_of, value_passed}
 

@@ -1,5 +1,25 @@
--- Canonical text, read from its front.
+-- What a reading of canonical text answers, without its references.
 use Rattle.std.specs.Prelude.{Bool, List, None, Option, Some, [], drop, if◌then◌else◌, length, nat_le, nat_lt, option_and_then, option_map, suc, take, zero, ℕ, ◌&&◌, ◌*◌, ◌+◌, ◌-◌, ◌==◌, ◌||◌, ◌∷◌}
+use Rattle.lq_canon.specs.declared.reading.Pair.{Pair}
+use Rattle.lq_canon.specs.declared.reading.Part.{Part}
+use Rattle.lq_canon.specs.declared.reading.Place.{Place}
+use Rattle.lq_model.specs.Changes.{CanonicalValue, text}
+
+abbrev pub part_of : Part → List ℕ × List ℕ
+part_of part = (part.bytes.now, part.rest.now)
+
+abbrev pub place_of : Place → ℕ × List ℕ
+place_of place = (place.depth, place.rest.now)
+
+abbrev pub pair_of : Pair → List ℕ × List ℕ × List ℕ
+pair_of pair = (pair.key.now, pair.value.now, pair.rest.now)
+
+-- the text that a value is
+abbrev pub text_in : CanonicalValue → Option (List ℕ)
+text_in (text t) = Some t
+text_in _ = None
+
+-- Canonical text, read from its front.
 
 -- digits up to a colon, and what follows it
 abbrev pub number_at : ℕ → List ℕ → Option (ℕ × List ℕ)

@@ -3,9 +3,9 @@ use Rattle.std.specs.List.{list_any}
 use Rattle.std.specs.Prelude.{Bool, List, codes, false, if◌then◌else◌, map, not, ℕ, ◌&&◌, ◌++◌, ◌||◌}
 use Rattle.std.specs.Str.{bytes_eq}
 use Rattle.hex.specs.Hex.{encode_lower}
-use Rattle.md5.specs.Md5.{md5}
-use Rattle.lq_model.specs.Canon.{CanonicalChange, CanonicalPairs, CanonicalValue, canonical_changes, no_pairs, pair, text}
+use Rattle.lq_model.specs.Changes.{CanonicalChange, CanonicalPairs, CanonicalValue, canonical_changes, no_pairs, pair, text}
 use Rattle.lq_uniform.specs.Uniform.{is_quote, is_space, uniform}
+use Rattle.md5.specs.Md5.{md5}
 
 -- an end delimiter with a blank or a quote, behind which a text would be cut elsewhere
 abbrev pub is_wide : List ℕ → CanonicalValue → Bool

@@ -8,7 +8,7 @@ ghost use Rattle.std.specs.Prelude.{◌≡◌, ◌++◌, IfOk, List, map};
 ghost use Rattle.hex.specs.Hex.{encode_lower};
 ghost use Rattle.md5.specs.Md5.{md5};
 ghost use Rattle.lq_canon.specs.Sums.{old_sum_of, sum_of, uniformed};
-ghost use Rattle.lq_model.specs.Canon.{CanonicalChange, IsFinished, canonical_changes};
+ghost use Rattle.lq_model.specs.Changes.{CanonicalChange, IsFinished, canonical_changes};
 
 use crate::rewriting::{is_uniform, rewritten};
 use lq_base::{NoMemory, Text};

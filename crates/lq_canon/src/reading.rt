@@ -1,8 +1,7 @@
 ghost use Rattle.std.specs.Option.{option_map};
 ghost use Rattle.std.specs.Prelude.{◌≡◌, ◌&&◌, ◌++◌, ◌+◌, ◌<◌, ◌^◌, ◌≤◌, ℕ, IfSome, List, None, Some, codes, drop, length, nat_le, nat_lt};
-ghost use Rattle.lq_model.specs.Canon.{CanonicalChange, CanonicalValue, atom, canonical, canonical_change, canonical_pairs};
-ghost use Rattle.lq_canon.specs.Parts.{pair_of, part_of, place_of, text_in};
-ghost use Rattle.lq_canon.specs.Passing.{atom_at, behind_atom, closed, split, stepped};
+ghost use Rattle.lq_model.specs.Changes.{CanonicalChange, CanonicalValue, atom, canonical, canonical_change, canonical_pairs};
+ghost use Rattle.lq_canon.specs.Passing.{pair_of, part_of, place_of, text_in, atom_at, behind_atom, closed, split, stepped};
 
 /// A part of a canonical text, and what follows it.
 #[derive(Clone, Copy)]

@@ -1,7 +1,7 @@
 ghost use Rattle.std.specs.List.{list_any};
 ghost use Rattle.std.specs.Prelude.{◌≡◌, ◌&&◌, ◌++◌, ◌||◌, ◌≤◌, ℕ, IfOk, List, OnOk, codes, false, length, map, string_bytes, true};
 ghost use Rattle.std.specs.Str.{bytes_eq};
-ghost use Rattle.lq_model.specs.Canon.{CanonicalChange, CanonicalPairs, CanonicalValue, atom, canonical, canonical_changes, canonical_each, canonical_pairs, map_of, numeral};
+ghost use Rattle.lq_model.specs.Changes.{CanonicalChange, CanonicalPairs, CanonicalValue, atom, canonical, canonical_changes, canonical_each, canonical_pairs, map_of, numeral};
 ghost use Rattle.lq_canon.specs.Sums.{has_sql_name, has_wide, is_replaced, is_sql_at, is_wide, uniform_pairs, uniform_value, uniformed};
 ghost use Rattle.lq_uniform.specs.Uniform.{is_quote, is_space, uniform};
 

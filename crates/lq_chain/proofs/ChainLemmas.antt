@@ -10,10 +10,8 @@ use Rattle.lq_links.specs.declared.node.Links.{Links}
 use Rattle.lq_links.specs.declared.node.Finger.{Finger}
 use Rattle.lq_links.specs.declared.done.Done.{Done}
 use Rattle.lq_links.specs.declared.done.Done.TheVariants.{Begun, Pushed, Unlinked, Replaced}
-use Rattle.lq_chain.specs.History.{history, changed, back}
-use Rattle.lq_links.specs.Nodes.{Linked, rows, NotIn, IsOn}
-use Rattle.lq_links.specs.State.{State, state_of, Ties, IsNone, gone, before, IsList, spots_from, spots, Spare, IsSound, AllUndo, pasts, nothing}
-use Rattle.lq_chain.specs.State.{IsWhole, seen}
+use Rattle.lq_chain.specs.History.{history, changed, back, IsWhole, seen}
+use Rattle.lq_links.specs.State.{Linked, rows, NotIn, IsOn, State, state_of, Ties, IsNone, gone, before, IsList, spots_from, spots, Spare, IsSound, AllUndo, pasts, nothing}
 use Rattle.lq_links.proofs.ShapeLemmas.{get_set_other}
 use Rattle.lq_chain.proofs.StepLemmas.{Made, list_is}
 

@@ -9,10 +9,8 @@ use Rattle.lq_links.specs.declared.node.Links.{Links}
 use Rattle.lq_links.specs.declared.node.Finger.{Finger}
 use Rattle.lq_links.specs.declared.done.Done.{Done}
 use Rattle.lq_links.specs.declared.done.Done.TheVariants.{Unlinked, Replaced}
-use Rattle.lq_chain.specs.History.{history}
-use Rattle.lq_links.specs.Nodes.{Has, node, first_or, last_or, rows, spot_at, IsOn}
-use Rattle.lq_links.specs.State.{state_of, Ties, IsList, unlinked, replaced_by, spots, CanRelink}
-use Rattle.lq_chain.specs.State.{IsWhole, seen}
+use Rattle.lq_chain.specs.History.{history, IsWhole, seen}
+use Rattle.lq_links.specs.State.{Has, node, first_or, last_or, rows, spot_at, IsOn, state_of, Ties, IsList, unlinked, replaced_by, spots, CanRelink}
 use Rattle.lq_chain.proofs.StepLemmas.{Made, made_unlinked, made_replaced, node_in}
 use Rattle.lq_chain.proofs.ChainLemmas.{unlinked_edit, replaced_edit, step_whole, step_seen}
 use Rattle.lq_chain.proofs.FindLemmas.{split, node_at, on_spot, spot_after, rows_removed, rows_set}

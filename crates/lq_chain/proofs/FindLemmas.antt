@@ -6,8 +6,7 @@ use Rattle.lq_links.specs.declared.node.Finger.{Finger}
 use Rattle.std.specs.Prelude.{slice_get, slice_set}
 use Rattle.std.specs.List.{remove}
 use Rattle.std.specs.Option.{option_map}
-use Rattle.lq_links.specs.Nodes.{Has, node, first_or, last_or, rows, IsThereIf, spot_at, IsOn}
-use Rattle.lq_links.specs.State.{State, IsList}
+use Rattle.lq_links.specs.State.{Has, node, first_or, last_or, rows, IsThereIf, spot_at, IsOn, State, IsList}
 use Rattle.lq_links.proofs.ShapeLemmas.{some_not, some_same}
 use Rattle.lq_chain.proofs.StepLemmas.{node_in, prev_in, next_in}
 

@@ -3,8 +3,7 @@ use Rattle.std.proofs.Common.{◌≡◌, ℕ, List, [], ◌∷◌, length, Optio
 use denote.RawPtr.{Ptr}
 use Rattle.lq_links.specs.declared.node.Node.{Node}
 use Rattle.lq_links.specs.declared.node.Spot.{Spot}
-use Rattle.lq_links.specs.Nodes.{node, Has, first_or, Linked}
-use Rattle.lq_links.specs.State.{spots_from}
+use Rattle.lq_links.specs.State.{node, Has, first_or, Linked, spots_from}
 use Rattle.lq_links.proofs.ShapeLemmas.{some_not, some_same}
 use Rattle.lq_chain.proofs.StepLemmas.{spots_are}
 

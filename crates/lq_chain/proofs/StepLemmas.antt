@@ -7,8 +7,7 @@ use Rattle.lq_links.specs.declared.node.Node.{Node}
 use Rattle.lq_links.specs.declared.node.Spot.{Spot}
 use Rattle.lq_links.specs.declared.done.Done.{Done}
 use Rattle.lq_links.specs.declared.done.Done.TheVariants.{Pushed, Unlinked, Replaced}
-use Rattle.lq_links.specs.Nodes.{Has, node, first_or, last_or, Linked, NotIn, NotInIf, Apart, IsThere, IsThereIf}
-use Rattle.lq_links.specs.State.{State, IsNone, gone, joined, rejoined, with_len, grown, popped, node_of, relinked_node, relinked, pushed, unlinked_node, unlinked, replaced_node, replaced_by, before, CanUndo, IsList, cons_node, spots_from, spots, Spare, IsSound}
+use Rattle.lq_links.specs.State.{Has, node, first_or, last_or, Linked, NotIn, NotInIf, Apart, IsThere, IsThereIf, State, IsNone, gone, joined, rejoined, with_len, grown, popped, node_of, relinked_node, relinked, pushed, unlinked_node, unlinked, replaced_node, replaced_by, before, CanUndo, IsList, cons_node, spots_from, spots, Spare, IsSound}
 use Rattle.lq_links.proofs.ShapeLemmas.{get_append, get_last, get_below, first_append, last_append, linked_append, linked_cut, linked_glue, notin_cut, notin_glue, apart_with, apart_without, apart_from, there_last, there_first, notin_new}
 use Rattle.lq_links.proofs.GapLemmas.{Gap, joined_keeps, there_joined, there_if_joined, length_joined, len_joined, gap_joined, rejoined_joined}
 

@@ -31,10 +31,9 @@ pub struct Chain<T> {
 }
 
 impl<T> Model for Chain<T> {
-    ghost use Rattle.lq_chain.specs.History.{History, history_code};
+    ghost use Rattle.lq_chain.specs.History.{History, history_code, IsWhole, seen};
     ghost use Rattle.std.specs.Coded.{coded_list};
     ghost use Rattle.std.specs.Prelude.{List};
-    ghost use Rattle.lq_chain.specs.State.{IsWhole, seen};
 
     ghost Value = { History (List T) };
 

@@ -1,7 +1,6 @@
 //! What is done over the whole record of steps.
 ghost use Rattle.std.specs.Prelude.{◌≡◌, ◌<◌, [], ◌∷◌, length, reverse};
-ghost use Rattle.lq_links.specs.Nodes.{rows};
-ghost use Rattle.lq_links.specs.State.{state_of, Ties, IsList, IsSound, AllUndo, spots, pasts};
+ghost use Rattle.lq_links.specs.State.{rows, state_of, Ties, IsList, IsSound, AllUndo, spots, pasts};
 
 use crate::moves::undo;
 use lq_links::{Done, Links, next};

@@ -1,8 +1,7 @@
 //! The node at a place of the list, reached from the nearest of the front, the end and the finger.
 ghost use Rattle.std.specs.Prelude.{◌≡◌, ◌⊎◌, ◌≤◌, ◌<◌, Some, None, IfNone, length};
 ghost use Rattle.std.specs.Option.{option_map};
-ghost use Rattle.lq_links.specs.Nodes.{spot_at, IsOn};
-ghost use Rattle.lq_links.specs.State.{state_of, IsList, spots};
+ghost use Rattle.lq_links.specs.State.{spot_at, IsOn, state_of, IsList, spots};
 
 use lq_links::{Finger, Links, Spot, next, prev};
 

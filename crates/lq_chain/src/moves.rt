@@ -1,7 +1,6 @@
 //! What the steps do to linked nodes.
 ghost use Rattle.std.specs.Prelude.{◌≡◌, ◌<◌, ◌^◌, length, IfErr, OnErr, IfOk};
-ghost use Rattle.lq_links.specs.Nodes.{Has, IsThereIf};
-ghost use Rattle.lq_links.specs.State.{state_of, Ties, pushed, unlinked, replaced_by, before, CanUndo, CanRelink};
+ghost use Rattle.lq_links.specs.State.{Has, IsThereIf, state_of, Ties, pushed, unlinked, replaced_by, before, CanUndo, CanRelink};
 ghost use Rattle.lq_links.specs.declared.node.Node.{Node};
 
 use lq_links::{Done, Links, Refused, Spot};

@@ -2,15 +2,12 @@
 use Rattle.std.proofs.Common.{subst}
 use Rattle.std.specs.Prelude.{Bool, Err, List, None, Ok, Option, Result, Some, codes, cond, false, if◌then◌else◌, option_and_then, refl, true, ℕ, ◌≡◌}
 use Rattle.lq_base.specs.declared.dialect.Dialect.{Dialect}
-use Rattle.lq_tree.specs.Found.{Found, and_then, map_found, or_bad, within}
+use Rattle.lq_tree.specs.Look.{Found, and_then, map_found, or_bad, within, printed_of, value_at}
 use Rattle.lq_tree.specs.Given.{if_so}
 use Rattle.lq_tree.specs.Keys.{at_required}
-use Rattle.lq_tree.specs.Look.{printed_of, value_at}
 use Rattle.lq_tree.specs.declared.node.Node.{Node}
-use Rattle.lq_kinds.specs.ChangeSets.{by_keys, by_path, by_set, heading, if_taken, map_set, notes, only_known, path_at, path_in, path_of, running, selection, set_of, set_with}
-use Rattle.lq_kinds.specs.Changes.{changes_at}
-use Rattle.lq_kinds.specs.Label.{a_label, is_label}
-use Rattle.lq_kinds.specs.Loads.{Files}
+use Rattle.lq_kinds.specs.ChangeSets.{by_keys, by_path, by_set, heading, if_taken, map_set, notes, only_known, path_at, path_in, path_of, running, selection, set_of, set_with, a_label, is_label}
+use Rattle.lq_kinds.specs.Changes.{changes_at, Files}
 use Rattle.lq_kinds.specs.declared.change_set.ChangeSet.{ChangeSet}
 use Rattle.lq_kinds.specs.declared.fault.SetFault.{SetFault}
 use Rattle.lq_kinds.specs.declared.fault.SetFault.TheVariants.{BadPath}

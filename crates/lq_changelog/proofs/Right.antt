@@ -6,16 +6,14 @@ use Rattle.std.specs.List.{list_all}
 use Rattle.std.specs.Prelude.{Bool, Err, IfOk, IfSome, List, None, Ok, Option, Result, Some, [], codes, cond, if◌then◌else◌, refl, true, false, ℕ, ◌&&◌, ◌++◌, ◌∷◌, ◌≡◌}
 use Rattle.std.specs.Str.{bytes_eq}
 use Rattle.lq_base.proofs.NumberSpelled.{number_of-spells}
-use Rattle.lq_base.specs.Options.{if_there}
+use Rattle.lq_base.specs.Number.{if_there}
 use Rattle.lq_base.specs.declared.dialect.Dialect.{Dialect}
 use Rattle.lq_base.specs.declared.fault.KindFault.TheVariants.{Unknown}
 use Rattle.lq_cond.specs.declared.cond.Reaction.{Reaction}
 use Rattle.lq_contents.specs.Trees.{file_tree, in_json, in_sql, in_yaml}
 use Rattle.lq_kinds.proofs.Right.{IsSpelled, set_right}
-use Rattle.lq_kinds.specs.AnyChange.{is_for}
-use Rattle.lq_kinds.specs.ChangeSets.{old_sum_of, set_of, sum_of}
-use Rattle.lq_kinds.specs.Label.{is_label}
-use Rattle.lq_kinds.specs.Dialects.{AreFor, is_block_for, is_read_for}
+use Rattle.lq_kinds.specs.AnyChange.{is_for, AreFor, is_block_for, is_read_for}
+use Rattle.lq_kinds.specs.ChangeSets.{old_sum_of, set_of, sum_of, is_label}
 use Rattle.lq_kinds.specs.declared.change_set.ChangeSet.{ChangeSet}
 use Rattle.lq_kinds.specs.declared.change_set.Changelog.{Changelog}
 use Rattle.lq_kinds.specs.declared.fault.SetFault.{SetFault}
@@ -47,10 +45,8 @@ use Rattle.lq_tree.specs.declared.node.TreeFault.{TreeFault}
 use Rattle.lq_yaml.proofs.Small.{yaml_tree_small}
 use Rattle.lq_yaml.specs.Yaml.{yaml_tree}
 use Rattle.lq_yaml.specs.declared.fault.YamlFault.{YamlFault}
-use Rattle.lq_changelog.specs.Changelog.{changelog, changelog_of, nothing}
-use Rattle.lq_changelog.specs.Contents.{Contents}
+use Rattle.lq_changelog.specs.Gathers.{changelog, changelog_of, nothing, Contents, at_home, at_line, away, gathers, in_tree, is_idle, is_there, line_of, map_made, map_set, meaning, no_line, part_in, parts_set, reaction_in, set_by, set_in, sql_set, then_set, tree_set, under_line, with_reaction, with_set, without_idle, wrongly}
 use Rattle.lq_changelog.specs.Laws.{WhatIsGivenIsForTheDialect}
-use Rattle.lq_changelog.specs.Gathers.{at_home, at_line, away, gathers, in_tree, is_idle, is_there, line_of, map_made, map_set, meaning, no_line, part_in, parts_set, reaction_in, set_by, set_in, sql_set, then_set, tree_set, under_line, with_reaction, with_set, without_idle, wrongly}
 
 -- what is read of each dialect's texts can be written
 texts_spelled : (d : Dialect) → IsSpelled d

@@ -8,23 +8,20 @@ use Rattle.hex.proofs.HexLemmas.{length-encode_with}
 use Rattle.hex.specs.Hex.{lower_digits}
 use Rattle.md5.proofs.StandardFacts.{length-md5}
 use Rattle.md5.specs.Md5.{md5}
-use Rattle.lq_base.specs.Character.{char_count, has_control}
-use Rattle.lq_base.specs.Options.{if_there}
+use Rattle.lq_base.specs.Number.{char_count, has_control, if_there}
 use Rattle.lq_base.specs.declared.dialect.Dialect.{Dialect}
 use Rattle.lq_model.proofs.Lists.{all-append, and_left, and_right, and_true}
 use Rattle.lq_canon.specs.Sums.{uniformed}
-use Rattle.lq_model.specs.Canon.{canonical_changes}
+use Rattle.lq_model.specs.Changes.{canonical_changes}
 use Rattle.lq_tree.specs.declared.node.Node.{Node}
-use Rattle.lq_kinds.specs.AnyChange.{canonical_of, is_for}
-use Rattle.lq_kinds.specs.ChangeSets.{set_of, set_with, sum_of}
-use Rattle.lq_kinds.specs.Dialects.{is_read_for}
-use Rattle.lq_kinds.specs.Label.{is_label}
-use Rattle.lq_kinds.specs.Loads.{Files}
+use Rattle.lq_kinds.specs.AnyChange.{canonical_of, is_for, is_read_for}
+use Rattle.lq_kinds.specs.ChangeSets.{set_of, set_with, sum_of, is_label}
+use Rattle.lq_kinds.specs.Changes.{Files}
 use Rattle.lq_kinds.specs.declared.any_change.AnyChange.{AnyChange}
 use Rattle.lq_kinds.specs.declared.any_change.AnyChange.TheVariants.{TagDatabase}
 use Rattle.lq_kinds.specs.declared.change_set.ChangeSet.{ChangeSet}
 use Rattle.lq_changelog.proofs.KeysRead.{heading_read, path_read, set_read}
-use Rattle.lq_changelog.specs.ShortTexts.{HasShortTag, HasShortTexts}
+use Rattle.lq_changelog.specs.Gathers.{HasShortTag, HasShortTexts}
 
 -- a text that can be an id, an author, a path or a tag
 label_short : (t : List ℕ) → (nat_le 1 (char_count t) && (nat_le (char_count t) 255 && not (has_control t))) ≡ true → char_count t ≤ 255

@@ -1,34 +1,48 @@
--- What a changelog gathers of its items.
-use Rattle.std.specs.Prelude.{Bool, Err, List, None, Ok, Option, Result, Some, [], codes, if◌then◌else◌, nat_lt, option_and_then, cond, false, length, ℕ, ◌==◌, ◌++◌, ◌∷◌}
-use Rattle.std.specs.Str.{bytes_eq}
-use Rattle.lq_base.specs.declared.dialect.Dialect.{Dialect}
+-- What has been gathered of a changelog.
+use Rattle.std.specs.List.{All, starts_with}
+use Rattle.std.specs.Prelude.{Bool, Err, List, None, Ok, Option, Result, Some, [], codes, cond, eqb, false, if◌then◌else◌, length, nat_lt, option_and_then, true, ℕ, ◌++◌, ◌==◌, ◌∷◌, ◌≡◌, ◌≤◌}
+use Rattle.std.specs.Str.{IsUtf8, bytes_eq}
 use Rattle.lq_base.specs.Kind.{plain_number}
+use Rattle.lq_base.specs.Number.{char_count}
+use Rattle.lq_base.specs.declared.dialect.Dialect.{Dialect}
 use Rattle.lq_base.specs.declared.fault.KindFault.TheVariants.{Bad, OutOfMemory, Unknown}
+use Rattle.lq_base.specs.declared.run.OnFail.{OnFail}
+use Rattle.lq_base.specs.declared.run.OnFail.TheVariants.{Halt}
+use Rattle.lq_cond.specs.declared.cond.Cond.{Cond}
+use Rattle.lq_cond.specs.declared.cond.Cond.TheVariants.{And}
 use Rattle.lq_cond.specs.declared.cond.Reaction.{Reaction}
+use Rattle.lq_contents.specs.Trees.{file_tree, own_reaction}
 use Rattle.lq_kinds.specs.AnyChange.{gives}
-use Rattle.lq_kinds.specs.ChangeSets.{old_sum_of, set_of, sum_of}
+use Rattle.lq_kinds.specs.ChangeSets.{is_label, old_sum_of, set_of, sum_of}
 use Rattle.lq_kinds.specs.Changes.{here_at, is_read}
-use Rattle.lq_kinds.specs.Label.{is_label}
 use Rattle.lq_kinds.specs.declared.any_change.AnyChange.{AnyChange}
+use Rattle.lq_kinds.specs.declared.any_change.AnyChange.TheVariants.{TagDatabase}
 use Rattle.lq_kinds.specs.declared.change_set.ChangeSet.{ChangeSet}
+use Rattle.lq_kinds.specs.declared.change_set.Changelog.{Changelog}
 use Rattle.lq_kinds.specs.declared.fault.SetFault.{SetFault}
 use Rattle.lq_kinds.specs.declared.fault.SetFault.TheVariants as set
-use Rattle.lq_sources.specs.Faults.{by_keys}
-use Rattle.lq_sources.specs.Items.{entry_of}
-use Rattle.lq_sources.specs.Meaning.{Meaning}
+use Rattle.lq_paths.specs.Paths.{format_of}
+use Rattle.lq_paths.specs.declared.path.Format.{Format}
+use Rattle.lq_paths.specs.declared.path.Format.TheVariants.{Json, Sql, Yaml}
+use Rattle.lq_sources.specs.Faults.{Loaded, Source, by_keys, ◌>>=◌}
+use Rattle.lq_sources.specs.Items.{Meaning, entry_of}
+use Rattle.lq_sources.specs.Walk.{walked}
 use Rattle.lq_sources.specs.declared.fault.Lack.{Lack}
 use Rattle.lq_sources.specs.declared.fault.Lack.TheVariants.{File, Wrong}
 use Rattle.lq_sources.specs.declared.fault.What.{What}
 use Rattle.lq_sources.specs.declared.fault.What.TheVariants.{BadPath, Key, Line}
-use Rattle.lq_paths.specs.Paths.{format_of}
-use Rattle.lq_paths.specs.declared.path.Format.{Format}
-use Rattle.lq_paths.specs.declared.path.Format.TheVariants.{Json, Sql, Yaml}
-use Rattle.lq_tree.specs.Found.{placed, within_list}
-use Rattle.lq_tree.specs.Look.{value_at}
+use Rattle.lq_tree.specs.Look.{placed, value_at, within_list}
 use Rattle.lq_tree.specs.declared.node.Node.{Node}
-use Rattle.lq_contents.specs.Own.{own_reaction}
-use Rattle.lq_contents.specs.Trees.{file_tree}
-use Rattle.lq_changelog.specs.Contents.{Contents}
+
+pub record Contents : Type 0 where
+  -- the conditions of all files
+  pub conds : List Cond
+  -- what the root says
+  pub on_fail : OnFail
+  pub on_error : OnFail
+  pub sets : List ChangeSet
+
+-- What a changelog gathers of its items.
 
 -- one changeset more, if it is not to be ignored
 abbrev pub with_set : Option ChangeSet → Contents → Contents
@@ -148,3 +162,36 @@ gathers d given is_root path key n g =
 
 abbrev pub meaning : Dialect → Meaning Contents
 meaning d = record { tree = file_tree; here = here_at d; gathers = gathers d }
+
+-- The changelog that the files below a root hold, or its first fault.
+
+-- before the root is read
+abbrev pub nothing : Contents
+nothing = record { conds = []; on_fail = Halt; on_error = Halt; sets = [] }
+
+-- all conditions have to hold
+abbrev pub changelog_of : Contents → Changelog
+changelog_of g = record { cond = And g.conds; on_fail = g.on_fail; on_error = g.on_error; sets = g.sets }
+
+unfoldable pub changelog : Source → List ℕ → Dialect → List (List ℕ × List ℕ) → Loaded Changelog
+changelog source root d given = walked (meaning d) source root given nothing >>= (λ g. Ok (changelog_of g))
+
+-- What holds of the texts of a changeset that was loaded.
+
+-- the tag that a change sets is short
+abbrev pub HasShortTag : AnyChange → Type 0
+HasShortTag (TagDatabase x) = char_count x.tag ≤ 255
+HasShortTag _ = Unit {0}
+
+-- the texts that a changeset's row takes over whole are short, and those that it cuts are UTF-8
+pub record HasShortTexts (x : ChangeSet) : Type 0 where
+  pub file : char_count x.identity.file ≤ 255
+  pub id : char_count x.identity.id ≤ 255
+  pub author : char_count x.identity.author ≤ 255
+  -- `P2:` and 32 hexadecimal digits
+  pub sum : char_count x.sum ≤ 35
+  pub form : starts_with eqb x.sum (codes "P2:") ≡ true
+  pub tags : All HasShortTag x.changes
+  pub comment : IsUtf8 x.comment
+  pub contexts : IsUtf8 x.context_text
+  pub labels : IsUtf8 x.labels_text

@@ -1,10 +1,10 @@
 -- What holds of each changelog that files give.
 use Rattle.std.specs.Prelude.{List, Ok, ℕ, ◌≡◌}
 use Rattle.lq_base.specs.declared.dialect.Dialect.{Dialect}
-use Rattle.lq_kinds.specs.Dialects.{AreFor}
+use Rattle.lq_changelog.specs.Gathers.{changelog}
+use Rattle.lq_kinds.specs.AnyChange.{AreFor}
 use Rattle.lq_kinds.specs.declared.change_set.Changelog.{Changelog}
 use Rattle.lq_sources.specs.Source.{Source}
-use Rattle.lq_changelog.specs.Changelog.{changelog}
 
 -- its changes are for the dialect for which the files are read
 abbrev pub WhatIsGivenIsForTheDialect : Type 0

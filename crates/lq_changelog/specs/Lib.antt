@@ -1,5 +1,2 @@
-pub mod Changelog
-pub mod Contents
-pub mod Gathers
 pub mod Laws
-pub mod ShortTexts
+pub mod Gathers

@@ -1,8 +1,8 @@
 ghost use Rattle.std.specs.List.{All};
 ghost use Rattle.std.specs.Prelude.{◌≡◌, IfSome, OnOk, true};
-ghost use Rattle.lq_base.specs.Options.{if_there};
-ghost use Rattle.lq_kinds.specs.Dialects.{AreFor, is_read_for};
-ghost use Rattle.lq_changelog.specs.ShortTexts.{HasShortTexts};
+ghost use Rattle.lq_base.specs.Number.{if_there};
+ghost use Rattle.lq_kinds.specs.AnyChange.{AreFor, is_read_for};
+ghost use Rattle.lq_changelog.specs.Gathers.{HasShortTexts};
 
 use lq_base::{Items, NoMemory, OnFail};
 use lq_cond::{Cond, Reaction};
@@ -29,10 +29,9 @@ impl<P: SqlText> Model for Gathered<P> {
     ghost use Rattle.std.specs.List.{All, list_all};
     ghost use Rattle.std.specs.Prelude.{◌≡◌, true};
     ghost use Rattle.lq_cond.specs.contracts.cond.Cond as cond;
-    ghost use Rattle.lq_kinds.specs.Dialects.{is_read_for};
+    ghost use Rattle.lq_kinds.specs.AnyChange.{is_read_for};
     ghost use Rattle.lq_kinds.specs.contracts.change_set.ChangeSet as set;
-    ghost use Rattle.lq_changelog.specs.Contents.{Contents};
-    ghost use Rattle.lq_changelog.specs.ShortTexts.{HasShortTexts};
+    ghost use Rattle.lq_changelog.specs.Gathers.{Contents, HasShortTexts};
 
     ghost Value = { Contents };
 
@@ -44,8 +43,7 @@ impl<P: SqlText> Model for Gathered<P> {
 }
 
 impl<P: SqlText> Gathered<P> {
-    ghost use Rattle.lq_changelog.specs.Changelog.{changelog_of, nothing};
-    ghost use Rattle.lq_changelog.specs.Gathers.{with_reaction, with_set};
+    ghost use Rattle.lq_changelog.specs.Gathers.{changelog_of, nothing, with_reaction, with_set};
 
     pub fn new(alloc: Global) -> Gathered<P>
         ensures { result ≡ nothing }

@@ -1,11 +1,10 @@
 ghost use Rattle.std.specs.Prelude.{◌≡◌, IfOk, IfSome, true};
-ghost use Rattle.lq_base.specs.Options.{if_there};
-ghost use Rattle.lq_kinds.specs.Dialects.{is_read_for};
-ghost use Rattle.lq_kinds.specs.Label.{is_label};
-ghost use Rattle.lq_sources.specs.Answers.{IsGathered, IsMade};
+ghost use Rattle.lq_base.specs.Number.{if_there};
+ghost use Rattle.lq_kinds.specs.AnyChange.{is_read_for};
+ghost use Rattle.lq_kinds.specs.ChangeSets.{is_label};
+ghost use Rattle.lq_sources.specs.Faults.{IsGathered, IsMade};
 ghost use Rattle.lq_paths.specs.Paths.{format_of};
-ghost use Rattle.lq_changelog.specs.Gathers.{line_of, reaction_in, set_by, set_in, sql_set, tree_set, what_at};
-ghost use Rattle.lq_changelog.specs.ShortTexts.{HasShortTexts};
+ghost use Rattle.lq_changelog.specs.Gathers.{line_of, reaction_in, set_by, set_in, sql_set, tree_set, what_at, HasShortTexts};
 
 use crate::sql_parts::parts_set;
 use crate::texts::read_set;

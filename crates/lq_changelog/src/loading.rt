@@ -1,11 +1,10 @@
 ghost use Rattle.std.specs.List.{All};
 ghost use Rattle.std.specs.Prelude.{◌≡◌, ◌≤◌, IfOk, IsErrOf};
-ghost use Rattle.lq_kinds.specs.Dialects.{AreFor};
-ghost use Rattle.lq_outside.specs.Count.{Rose};
-ghost use Rattle.lq_sources.specs.Answers.{Finds};
+ghost use Rattle.lq_kinds.specs.AnyChange.{AreFor};
+ghost use Rattle.lq_outside.specs.Forms.{Rose};
+ghost use Rattle.lq_sources.specs.Faults.{Finds};
 ghost use Rattle.lq_sources.specs.declared.fault.LoadFault.TheVariants.{Read};
-ghost use Rattle.lq_changelog.specs.Changelog.{changelog};
-ghost use Rattle.lq_changelog.specs.ShortTexts.{HasShortTexts};
+ghost use Rattle.lq_changelog.specs.Gathers.{changelog, HasShortTexts};
 
 use crate::gathered::Gathered;
 use crate::gathering::Reader;

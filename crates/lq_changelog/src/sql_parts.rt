@@ -1,13 +1,10 @@
 ghost use Rattle.std.specs.Prelude.{◌≡◌, ◌==◌, [], IfOk, IfSome, length, option_copied, true};
-ghost use Rattle.lq_base.specs.Options.{if_there};
-ghost use Rattle.lq_kinds.specs.AnyChange.{gives, is_for};
-ghost use Rattle.lq_kinds.specs.ChangeSets.{ReadsSet, old_sum_of, sum_of};
-ghost use Rattle.lq_kinds.specs.Dialects.{is_read_for};
-ghost use Rattle.lq_kinds.specs.Label.{is_label};
+ghost use Rattle.lq_base.specs.Number.{if_there};
+ghost use Rattle.lq_kinds.specs.AnyChange.{gives, is_for, is_read_for};
+ghost use Rattle.lq_kinds.specs.ChangeSets.{ReadsSet, old_sum_of, sum_of, is_label};
 ghost use Rattle.lq_tree.specs.Look.{value_at};
 ghost use Rattle.std.specs.List.{list_all};
-ghost use Rattle.lq_changelog.specs.Gathers.{at_home, away, is_idle, is_there, parts_set, part_in, without_idle};
-ghost use Rattle.lq_changelog.specs.ShortTexts.{HasShortTexts};
+ghost use Rattle.lq_changelog.specs.Gathers.{at_home, away, is_idle, is_there, parts_set, part_in, without_idle, HasShortTexts};
 
 use crate::texts::read_set;
 use lq_base::{Dialect, Items, KindFault, NoMemory};

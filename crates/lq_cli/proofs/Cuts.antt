@@ -3,7 +3,7 @@ use Rattle.std.proofs.Common.{◌≡◌, ◌≢◌, ◌<◌, ℕ, suc, List, [],
 use Rattle.std.specs.Option.{MatchOption}
 use Rattle.std.proofs.lemmas.Bool.{eq-eqb}
 use Rattle.std.proofs.lemmas.Bool.Decides.{eqb_tells}
-use Rattle.lq_cli.specs.Values.{before, cut_at}
+use Rattle.lq_cli.specs.Options.{before, cut_at}
 
 pub cut_parts : (mark : ℕ) (front behind : List ℕ) → ((i : ℕ) → i < length front → get_or front i 0 ≢ mark) → cut_at mark (front ++ mark ∷ behind) ≡ Some (front, behind)
 unfolding cut_at

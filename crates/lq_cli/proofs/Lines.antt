@@ -6,9 +6,8 @@ use Rattle.lq_expr.specs.declared.expr.Expr.{Expr}
 use Rattle.lq_cli.specs.declared.line.Job.{Job}
 use Rattle.lq_cli.specs.declared.verb.Verb.{Verb}
 use Rattle.lq_cli.specs.Line.{job_of, line_with}
-use Rattle.lq_cli.specs.Options.{definitions, value}
+use Rattle.lq_cli.specs.Options.{definitions, value, contexts_of, labels_of, properties_of, url_of}
 use Rattle.lq_cli.specs.Table.{changelog_file, context_filter, label_filter, url}
-use Rattle.lq_cli.specs.Values.{contexts_of, labels_of, properties_of, url_of}
 
 pub line_is : (verb : Verb) (given : List Row) (dialect : Dialect) (file : List ℕ) (job : Job) (contexts : List (List ℕ)) (labels : Option Expr) (root : Option (List ℕ)) (properties : List (List ℕ × List ℕ))
     → option_and_then url_of (value given url) ≡ Some (dialect, file)

@@ -1,6 +1,6 @@
 -- What stands after a start.
 use Rattle.std.proofs.Common.{◌≡◌, ◌≢◌, ◌==◌, ℕ, true, false, cond, List, [], ◌∷◌, ◌++◌, None, Some, refl, rules}
-use Rattle.lq_cli.specs.Values.{after, file_after, not_empty}
+use Rattle.lq_cli.specs.Options.{after, file_after, not_empty}
 
 same : (p b : ℕ) → (p == b) ≡ true → b ≡ p
 same p b e = search rules

@@ -1,19 +1,23 @@
--- What the words of a command line ask for.
-use Rattle.std.specs.Prelude.{ℕ, List, [], ◌∷◌, Option, Some, None, option_map}
+-- What may be found or not, one after another.
+use Rattle.std.specs.Prelude.{List, None, Option, Some, [], option_and_then, option_map, ℕ, ◌∷◌}
 use Rattle.clap.specs.Walk.{Row}
 use Rattle.lq_base.specs.Moment.{moment_of}
 use Rattle.lq_base.specs.declared.command.Command.TheVariants as command
 use Rattle.lq_base.specs.declared.command.Target.{Target}
 use Rattle.lq_base.specs.declared.command.Target.TheVariants as target
+use Rattle.lq_cli.specs.Options.{contexts_of, definitions, given_in, labels_of, number_from, properties_of, tag_of, url_of, value}
+use Rattle.lq_cli.specs.Table.{author, changelog_file, context_filter, count, date, form_of, label_filter, number, runs, sets, tag, url, verb_of}
 use Rattle.lq_cli.specs.declared.line.Job.{Job}
-use Rattle.lq_cli.specs.declared.line.Job.TheVariants.{Run, UpdateSql, UpdateCount, UpdateTo, UpdateTestingRollback, RollbackSql, History, Generate, Drill, Soak, ClearSums, UndoUnrecorded, Snapshot}
+use Rattle.lq_cli.specs.declared.line.Job.TheVariants.{ClearSums, Drill, Generate, History, RollbackSql, Run, Snapshot, Soak, UndoUnrecorded, UpdateCount, UpdateSql, UpdateTestingRollback, UpdateTo}
 use Rattle.lq_cli.specs.declared.line.Line.{Line}
 use Rattle.lq_cli.specs.declared.verb.Verb.{Verb}
 use Rattle.lq_cli.specs.declared.verb.Verb.TheVariants as verb
-use Rattle.lq_cli.specs.Options.{definitions, given_in, value}
-use Rattle.lq_cli.specs.Parsed.{◌>>=◌}
-use Rattle.lq_cli.specs.Table.{author, changelog_file, context_filter, count, date, form_of, label_filter, number, runs, sets, tag, url, verb_of}
-use Rattle.lq_cli.specs.Values.{contexts_of, labels_of, number_from, properties_of, tag_of, url_of}
+
+infixl 10 ◌>>=◌
+abbrev pub ◌>>=◌ : {A B : Type 0} → Option A → (A → Option B) → Option B
+found >>= next = option_and_then next found
+
+-- What the words of a command line ask for.
 
 -- back to a tag, by a count or back to a date
 unfoldable pub to_tag : List ℕ → Option Target

@@ -1,9 +1,9 @@
 -- The commands, and the options that each one takes.
-use Rattle.std.specs.Prelude.{ℕ, Bool, true, false, List, [], ◌∷◌, Option, codes}
 use Rattle.std.specs.Map.{lookup}
+use Rattle.std.specs.Prelude.{Bool, List, Option, [], codes, false, true, ℕ, ◌∷◌}
 use Rattle.std.specs.Str.{bytes_eq}
 use Rattle.lq_cli.specs.declared.verb.Verb.{Verb}
-use Rattle.lq_cli.specs.declared.verb.Verb.TheVariants.{Validate, Status, Update, UpdateSql, UpdateCount, UpdateToTag, UpdateTestingRollback, ChangelogSync, Rollback, RollbackCount, RollbackToDate, RollbackSql, Tag, ReleaseLocks, History, GenerateChangelog, Drill, Soak, ClearChecksums, UndoUnrecorded, Snapshot}
+use Rattle.lq_cli.specs.declared.verb.Verb.TheVariants.{ChangelogSync, ClearChecksums, Drill, GenerateChangelog, History, ReleaseLocks, Rollback, RollbackCount, RollbackSql, RollbackToDate, Snapshot, Soak, Status, Tag, UndoUnrecorded, Update, UpdateCount, UpdateSql, UpdateTestingRollback, UpdateToTag, Validate}
 
 -- the names of the options
 abbrev pub url : List ℕ

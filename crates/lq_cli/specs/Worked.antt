@@ -1,15 +1,15 @@
 -- Command lines with what they ask for, and words that are none.
-use Rattle.std.specs.Prelude.{◌≡◌, ℕ, true, List, [], ◌∷◌, Option, Some, None, is_none, is_some, codes}
 use Rattle.std.specs.List.{list_all}
+use Rattle.std.specs.Prelude.{List, None, Option, Some, [], codes, is_none, is_some, true, ℕ, ◌∷◌, ◌≡◌}
 use Rattle.lq_base.specs.declared.command.Command.TheVariants as command
 use Rattle.lq_base.specs.declared.command.Target.TheVariants as target
 use Rattle.lq_base.specs.declared.dialect.Dialect.{Dialect}
-use Rattle.lq_base.specs.declared.dialect.Dialect.TheVariants.{Postgresql, Mysql}
-use Rattle.lq_expr.specs.declared.expr.Expr.TheVariants.{Name}
-use Rattle.lq_cli.specs.declared.line.Job.{Job}
-use Rattle.lq_cli.specs.declared.line.Job.TheVariants.{Run, RollbackSql, Generate, Drill, Soak}
-use Rattle.lq_cli.specs.declared.line.Line.{Line}
+use Rattle.lq_base.specs.declared.dialect.Dialect.TheVariants.{Mysql, Postgresql}
 use Rattle.lq_cli.specs.Line.{line_of}
+use Rattle.lq_cli.specs.declared.line.Job.{Job}
+use Rattle.lq_cli.specs.declared.line.Job.TheVariants.{Drill, Generate, RollbackSql, Run, Soak}
+use Rattle.lq_cli.specs.declared.line.Line.{Line}
+use Rattle.lq_expr.specs.declared.expr.Expr.TheVariants.{Name}
 
 abbrev pub Words : Type 0
 Words = List (List ℕ)

@@ -1,7 +1,7 @@
 ghost use Rattle.std.specs.Prelude.{◌≡◌, true, map, string_bytes, option_map};
 ghost use Rattle.clap.specs.Simple.{app_of};
 ghost use Rattle.clap.specs.Faults.{is_simple_and_free};
-ghost use Rattle.lq_cli.specs.Gives.{Gives};
+ghost use Rattle.lq_cli.specs.Job.{Gives};
 ghost use Rattle.lq_cli.specs.Options.{are_plain, definitions, given_in, is_plain_word, matched, value};
 ghost use Rattle.lq_cli.specs.Table.{form_of};
 

@@ -1,9 +1,8 @@
 ghost use Rattle.std.specs.Prelude.{◌≡◌, option_and_then, option_map};
-ghost use Rattle.lq_cli.specs.Gives.{Gives};
+ghost use Rattle.lq_cli.specs.Job.{Gives};
 ghost use Rattle.lq_cli.specs.Line.{by_count, counting, drilling, generating, going, job_of, only_target, rollback, soak, tagging, to_date, to_tag};
-ghost use Rattle.lq_cli.specs.Options.{value};
+ghost use Rattle.lq_cli.specs.Options.{value, number_from, tag_of};
 ghost use Rattle.lq_cli.specs.Table.{author, count, date, number, sets, tag};
-ghost use Rattle.lq_cli.specs.Values.{number_from, tag_of};
 
 use crate::chosen::Chosen;
 use crate::fault::WordsFault;

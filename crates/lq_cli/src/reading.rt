@@ -1,8 +1,7 @@
 ghost use Rattle.std.specs.Prelude.{◌≡◌, IfOk, IfErr, map, None, Some, option_map, option_and_then, string_bytes};
-ghost use Rattle.lq_cli.specs.Gives.{Gives};
+ghost use Rattle.lq_cli.specs.Job.{Gives};
 ghost use Rattle.lq_cli.specs.Line.{line_after, line_of, line_with};
-ghost use Rattle.lq_cli.specs.Values.{definition_of, each, properties_of, url_of};
-ghost use Rattle.lq_cli.specs.Options.{value};
+ghost use Rattle.lq_cli.specs.Options.{definition_of, each, properties_of, url_of, value};
 ghost use Rattle.lq_cli.specs.Table.{url as url_name};
 
 use crate::chosen::Chosen;

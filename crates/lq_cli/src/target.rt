@@ -1,4 +1,4 @@
-ghost use Rattle.lq_cli.specs.Gives.{Gives};
+ghost use Rattle.lq_cli.specs.Job.{Gives};
 ghost use Rattle.lq_cli.specs.Line.{by_count, only_target, to_date, to_tag};
 
 use crate::chosen::Chosen;

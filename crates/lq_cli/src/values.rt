@@ -1,8 +1,7 @@
 ghost use Rattle.std.specs.Prelude.{◌≡◌, ◌<◌, ◌≤◌, IfSome, option_map};
-ghost use Rattle.lq_expr.specs.Grammar.{parsed};
-ghost use Rattle.lq_expr.specs.Names.{parsed_names};
-ghost use Rattle.lq_cli.specs.Gives.{Gives, found};
-ghost use Rattle.lq_cli.specs.Values.{contexts_of, cut_at, definition_of, file_after, labels_of, number_from, tag_of, url_of};
+ghost use Rattle.lq_expr.specs.Grammar.{parsed, parsed_names};
+ghost use Rattle.lq_cli.specs.Job.{Gives, found};
+ghost use Rattle.lq_cli.specs.Options.{contexts_of, cut_at, definition_of, file_after, labels_of, number_from, tag_of, url_of};
 
 use crate::fault::WordsFault;
 use lq_base::{Dialect, Items, Text, char_count, has_control, plain_number};

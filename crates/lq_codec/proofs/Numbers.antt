@@ -1,14 +1,13 @@
 -- Numbers are read back.
 use Rattle.std.proofs.Common.{◌-◌, zero, suc, unsigned_abs, nat_le, ◌≡◌, ◌+◌, ◌*◌, ◌/◌, ◌%◌, ◌^◌, ◌<◌, ◌&&◌, ◌++◌, ◌∷◌, ℕ, Bool, true, false, List, [], length, take, drop, None, Some, refl, sym, ◌∙◌, ap, subst, arith, if◌then◌else◌, ℤ, pos, FitsSigned}
 use Rattle.std.specs.Int.{cast_signed, cast_unsigned, from_be_bytes, to_be_bytes, w128}
-use Rattle.std.specs.Str.{bytes_eq}
+use Rattle.std.specs.Str.{bytes_eq, is_utf8}
 use Rattle.std.proofs.lemmas.Slice.Eq.{bytes_eq-Decides}
 use Rattle.std.proofs.lemmas.List.{take-append-drop, take_at, drop_at}
 use native.Mathlib.Nat as nat
 use lib.IntN.{negsuc}
 use Rattle.std.proofs.lemmas.Bool.{leb-true, ltb-true}
 use Rattle.std.proofs.lemmas.Int.{to_z-of_z}
-use Rattle.std.specs.Str.{is_utf8}
 use Rattle.lq_base.specs.Name.{is_name_key}
 use Rattle.lq_base.specs.Value.{is_int64}
 use Rattle.lq_codec.proofs.Laws.{and_left, and_right, both_true, is_counted, is_mapped, is_only_if, some_is}

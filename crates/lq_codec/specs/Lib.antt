@@ -3,7 +3,4 @@ pub mod Words
 pub mod Values
 pub mod Queries
 pub mod Tables
-pub mod Database
-pub mod Limits
-pub mod Sound
 pub mod State

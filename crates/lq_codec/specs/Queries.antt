@@ -2,6 +2,9 @@
 use Rattle.std.specs.Prelude.{List, None, Option, Some, [], suc, zero, ℕ, ◌∷◌}
 use Rattle.lq_base.specs.declared.literal.Literal.{Literal}
 use Rattle.lq_base.specs.declared.name.Name.{Name}
+use Rattle.lq_codec.specs.Codec.{Codec, always, both, counted, mapped, nothing, one, only_if, optional, variant}
+use Rattle.lq_codec.specs.Values.{literal_codec}
+use Rattle.lq_codec.specs.Words.{byte, count, is_below, name}
 use Rattle.lq_model.specs.Truth.{Both, Either, Turned}
 use Rattle.lq_model.specs.declared.query.Query.{Query}
 use Rattle.lq_model.specs.declared.query.Wanted.{Wanted}
@@ -11,9 +14,6 @@ use Rattle.lq_model.specs.declared.test.Op.TheVariants as op
 use Rattle.lq_model.specs.declared.test.Operand.{Operand}
 use Rattle.lq_model.specs.declared.test.Operand.TheVariants as operand
 use Rattle.lq_model.specs.declared.test.Test.{Compare, IsNull, NotNull, Test}
-use Rattle.lq_codec.specs.Codec.{Codec, always, both, counted, mapped, nothing, one, only_if, optional, variant}
-use Rattle.lq_codec.specs.Values.{literal_codec}
-use Rattle.lq_codec.specs.Words.{byte, count, is_below, name}
 
 -- tests
 abbrev pub op_of : ℕ → Op

@@ -1,18 +1,19 @@
 -- The bytes of tables: the fields stand in this order.
-use Rattle.std.specs.Prelude.{Bool, List, Option, Some, [], false, length, true, ℕ, ◌∷◌}
+use Rattle.std.specs.Prelude.{Bool, List, Option, Some, [], false, length, true, ℕ, ℤ, ◌∷◌}
 use Rattle.lq_base.specs.declared.kind.Kind.{Kind}
 use Rattle.lq_base.specs.declared.name.Name.{Name}
 use Rattle.lq_base.specs.declared.value.Value.{Value}
-use Rattle.lq_model.specs.Catalogue.{Table}
+use Rattle.lq_codec.specs.Codec.{Codec, after, both, counted, each, mapped, only_if, optional, read_all}
+use Rattle.lq_codec.specs.Queries.{names, query_codec}
+use Rattle.lq_codec.specs.Values.{kind_codec, value_codec}
+use Rattle.lq_codec.specs.Words.{below, count, name, number, truth}
+use Rattle.lq_model.specs.Catalogue.{Catalogue, Sequence, Table, View}
 use Rattle.lq_model.specs.declared.column.Column.{Column}
 use Rattle.lq_model.specs.declared.constraint.ForeignKey.{ForeignKey}
 use Rattle.lq_model.specs.declared.constraint.Key.{Key}
 use Rattle.lq_model.specs.declared.constraint.Unique.{Unique}
 use Rattle.lq_model.specs.declared.index.Index.{Index}
-use Rattle.lq_codec.specs.Codec.{Codec, after, both, counted, each, mapped, only_if, optional}
-use Rattle.lq_codec.specs.Queries.{names}
-use Rattle.lq_codec.specs.Values.{kind_codec, value_codec}
-use Rattle.lq_codec.specs.Words.{below, count, name, truth}
+use Rattle.lq_model.specs.declared.query.Query.{Query}
 
 abbrev pub as_column : Name × (Kind × (Bool × (Option Value × Bool))) → Column
 as_column p = record { name = p.0; kind = p.1.0; nullable = p.1.1.0; default = p.1.1.1.0; numbered = p.1.1.1.1 }
@@ -105,3 +106,52 @@ of_table t = Some ((t.columns, (t.key, (t.uniques, (t.foreign, (t.indexes, t.nex
 
 unfoldable pub table_codec : Codec Table
 table_codec = mapped as_table of_table (after head_codec rows_codec)
+
+-- The bytes of a database.
+
+-- views
+abbrev pub as_view : Query × List Name → View
+as_view p = record { query = p.0; columns = p.1 }
+
+abbrev pub of_view : View → Option (Query × List Name)
+of_view v = Some (v.query, v.columns)
+
+unfoldable pub view_codec : Codec View
+view_codec = mapped as_view of_view (both query_codec names)
+
+-- sequences
+abbrev pub as_sequence : ℤ × ℤ → Sequence
+as_sequence p = record { start = p.0; step = p.1 }
+
+abbrev pub of_sequence : Sequence → Option (ℤ × ℤ)
+of_sequence s = Some (s.start, s.step)
+
+unfoldable pub sequence_codec : Codec Sequence
+sequence_codec = mapped as_sequence of_sequence (both number number)
+
+-- the whole
+abbrev pub as_catalogue : List (Name × Table) × (List (Name × View) × List (Name × Sequence)) → Catalogue
+as_catalogue p = record { tables = p.0; views = p.1.0; sequences = p.1.1 }
+
+abbrev pub of_catalogue : Catalogue
+    → Option (List (Name × Table) × (List (Name × View) × List (Name × Sequence)))
+of_catalogue c = Some (c.tables, (c.views, c.sequences))
+
+abbrev pub catalogue_codec : Codec Catalogue
+catalogue_codec =
+    mapped as_catalogue of_catalogue
+    (both (counted count (both name table_codec))
+    (both (counted count (both name view_codec)) (counted count (both name sequence_codec))))
+
+-- Whether a catalogue keeps to what can be written: its texts are UTF-8, its names are names, its
+-- numbers are within their types; a table has columns, at most 100,000 rows, and in each row as many
+-- values as columns; a test has at most 64 levels.
+unfoldable pub can_be_written : Catalogue → Bool
+can_be_written c = catalogue_codec.ok c
+
+-- the bytes of a catalogue, and the one whose bytes these are
+unfoldable pub bytes_of : Catalogue → List ℕ
+bytes_of c = catalogue_codec.write c
+
+unfoldable pub catalogue_of : List ℕ → Option Catalogue
+catalogue_of bytes = read_all catalogue_codec bytes

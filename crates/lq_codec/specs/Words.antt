@@ -1,6 +1,6 @@
 -- Numbers, truth values and texts as bytes.
-use Rattle.std.specs.Prelude.{Bool, List, None, Option, Some, [], bytes_eq, drop, false, if◌then◌else◌, int_le, length, nat_lt, neg_ℤ, pos, suc, take, true, unsigned_abs, zero, ℕ, ℤ, ◌&&◌, ◌-◌, ◌∷◌, ◌^◌}
 use Rattle.std.specs.Int.{cast_signed, cast_unsigned, from_be_bytes, to_be_bytes, w128}
+use Rattle.std.specs.Prelude.{Bool, List, None, Option, Some, [], bytes_eq, drop, false, if◌then◌else◌, int_le, length, nat_lt, neg_ℤ, pos, suc, take, true, unsigned_abs, zero, ℕ, ℤ, ◌&&◌, ◌-◌, ◌^◌, ◌∷◌}
 use Rattle.std.specs.Str.{is_utf8}
 use Rattle.lq_base.specs.Name.{is_name_key}
 use Rattle.lq_base.specs.Value.{is_int64}

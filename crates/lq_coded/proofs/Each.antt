@@ -4,7 +4,7 @@ use Rattle.std.specs.List.{list_all}
 use Rattle.std.specs.Option.{option_map}
 use Rattle.std.proofs.lemmas.List.{append-nil, append_assoc}
 use Rattle.lq_codec.specs.Codec.{Codec, ahead, counted, optional, read_each, then_more, write_each}
-use Rattle.lq_codec.specs.Limits.{OnTrue, free, if_any}
+use Rattle.lq_codec.specs.State.{OnTrue, free, if_any}
 use Rattle.lq_codec.specs.Words.{count}
 use Rattle.lq_codec.proofs.Laws.{both_true}
 

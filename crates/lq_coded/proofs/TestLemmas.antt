@@ -4,10 +4,10 @@ use Rattle.std.proofs.lemmas.Bool.{ltb-true}
 use Rattle.std.proofs.lemmas.Bool.Decides.{nat_tests}
 use Rattle.std.specs.Cmp.{both_ways}
 use Rattle.std.proofs.lemmas.List.{append-nil}
-use Rattle.lq_model.specs.Spelled.{levels}
+use Rattle.lq_model.specs.Comparison.{levels}
 use Rattle.lq_model.specs.Truth.{Both, Either, Turned}
 use Rattle.lq_model.specs.declared.test.Test.{And, Not, Or, Test}
-use Rattle.lq_codec.specs.Limits.{OnTrue, is_below_level}
+use Rattle.lq_codec.specs.State.{OnTrue, is_below_level}
 use Rattle.lq_codec.specs.Queries.{test_codec, whole_test}
 use Rattle.lq_codec.proofs.Laws.{and_left, and_right, both_true}
 

@@ -1,7 +1,7 @@
 ghost use Rattle.std.specs.Prelude.{◌≡◌, ◌++◌, ◌∷◌, ◌&&◌, Bool, Some, None, MatchOption, IfOk, OnOk, true};
 ghost use Rattle.std.specs.List.{list_all};
 ghost use Rattle.lq_codec.specs.Codec.{Codec, counted, each, one, write_each};
-ghost use Rattle.lq_codec.specs.Limits.{OnTrue};
+ghost use Rattle.lq_codec.specs.State.{OnTrue};
 ghost use Rattle.lq_codec.specs.Words.{count};
 
 use lq_base::{Items, NoMemory};
@@ -147,7 +147,7 @@ impl<T: Coded + Drop> Coded for Items<T> {
 
 impl<T: Coded + Drop> Coded for Option<T> {
     ghost use Rattle.lq_codec.specs.Codec.{optional};
-    ghost use Rattle.lq_codec.specs.Limits.{if_any};
+    ghost use Rattle.lq_codec.specs.State.{if_any};
 
     ghost codec = { optional T.codec };
 
@@ -174,7 +174,7 @@ impl<T: Coded + Drop> Coded for Option<T> {
 
 impl<A: Coded + Drop, B: Coded + Drop> Coded for (A, B) {
     ghost use Rattle.lq_codec.specs.Codec.{both};
-    ghost use Rattle.lq_codec.specs.Limits.{if_both};
+    ghost use Rattle.lq_codec.specs.State.{if_both};
 
     ghost codec = { both A.codec B.codec };
 

@@ -4,7 +4,7 @@ use std::alloc::Global;
 
 #[tactic(auto, unfolding(lq_codec::specs::Values::kind_codec))]
 impl Coded for Kind {
-    ghost use Rattle.lq_codec.specs.Limits.{free};
+    ghost use Rattle.lq_codec.specs.State.{free};
     ghost use Rattle.lq_codec.specs.Values.{kind_codec};
 
     ghost codec = { kind_codec };

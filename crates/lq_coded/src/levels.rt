@@ -1,6 +1,6 @@
 ghost use Rattle.std.specs.Prelude.{◌≡◌, ◌++◌, ◌∷◌, ◌&&◌, Some, None, MatchOption, IfOk, OnOk, suc, true};
 ghost use Rattle.lq_codec.specs.Codec.{both, mapped};
-ghost use Rattle.lq_codec.specs.Limits.{OnTrue, is_below_level};
+ghost use Rattle.lq_codec.specs.State.{OnTrue, is_below_level};
 ghost use Rattle.lq_codec.specs.Queries.{as_both, as_either, as_turned, compared, in_both, in_either, in_turned, test_codec};
 
 use crate::coded::{Coded, append_at, append_two_at};
@@ -245,7 +245,7 @@ fn append_some_test(test: &Test, less: usize, to: &mut Vec<u8>) -> Result<(), No
 
 /// At most 64 levels, as in a test that can be written in SQL.
 impl Coded for Test {
-    ghost use Rattle.lq_codec.specs.Limits.{is_below_level};
+    ghost use Rattle.lq_codec.specs.State.{is_below_level};
     ghost use Rattle.lq_codec.specs.Queries.{whole_test};
 
     ghost codec = { whole_test };

@@ -7,7 +7,7 @@ use lq_codec::{append_number, count, number};
 use std::alloc::Global;
 
 impl Coded for i128 {
-    ghost use Rattle.lq_codec.specs.Limits.{free};
+    ghost use Rattle.lq_codec.specs.State.{free};
     ghost use Rattle.lq_codec.specs.Words.{number};
 
     ghost codec = { number };
@@ -29,7 +29,7 @@ impl Coded for i128 {
 
 #[tactic(auto, unfolding(lq_codec::specs::Words::small_number))]
 impl Coded for i64 {
-    ghost use Rattle.lq_codec.specs.Limits.{free};
+    ghost use Rattle.lq_codec.specs.State.{free};
     ghost use Rattle.lq_codec.specs.Words.{small_number};
 
     ghost codec = { small_number };
@@ -89,7 +89,7 @@ fn append_digits(n: u8, to: &mut Vec<u8>) -> Result<(), NoMemory>
 }
 
 impl Coded for u64 {
-    ghost use Rattle.lq_codec.specs.Limits.{free};
+    ghost use Rattle.lq_codec.specs.State.{free};
     ghost use Rattle.lq_codec.specs.Words.{count};
 
     ghost codec = { count };
@@ -111,7 +111,7 @@ impl Coded for u64 {
 
 #[tactic(auto, unfolding(lq_codec::specs::Words::width))]
 impl Coded for u32 {
-    ghost use Rattle.lq_codec.specs.Limits.{free};
+    ghost use Rattle.lq_codec.specs.State.{free};
     ghost use Rattle.lq_codec.specs.Words.{width};
 
     ghost codec = { width };
@@ -136,7 +136,7 @@ impl Coded for u32 {
 
 #[tactic(auto, unfolding(lq_codec::specs::Words::digits))]
 impl Coded for u8 {
-    ghost use Rattle.lq_codec.specs.Limits.{free};
+    ghost use Rattle.lq_codec.specs.State.{free};
     ghost use Rattle.lq_codec.specs.Words.{digits};
 
     ghost codec = { digits };
@@ -161,7 +161,7 @@ impl Coded for u8 {
 
 #[tactic(auto, unfolding(lq_codec::specs::Words::truth))]
 impl Coded for bool {
-    ghost use Rattle.lq_codec.specs.Limits.{free};
+    ghost use Rattle.lq_codec.specs.State.{free};
     ghost use Rattle.lq_codec.specs.Words.{truth};
 
     ghost codec = { truth };

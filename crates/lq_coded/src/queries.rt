@@ -28,7 +28,7 @@ fn append_names_at(place: u8, items: &Items<Name>, to: &mut Vec<u8>) -> Result<(
 
 #[tactic(auto, unfolding(lq_codec::specs::Queries::op_codec))]
 impl Coded for Op {
-    ghost use Rattle.lq_codec.specs.Limits.{free};
+    ghost use Rattle.lq_codec.specs.State.{free};
     ghost use Rattle.lq_codec.specs.Queries.{op_codec};
 
     ghost codec = { op_codec };
@@ -61,7 +61,7 @@ impl Coded for Op {
 
 #[tactic(auto, unfolding(lq_codec::specs::Queries::operand_codec))]
 impl Coded for Operand {
-    ghost use Rattle.lq_codec.specs.Limits.{free};
+    ghost use Rattle.lq_codec.specs.State.{free};
     ghost use Rattle.lq_codec.specs.Queries.{operand_codec};
 
     ghost codec = { operand_codec };
@@ -92,7 +92,7 @@ impl Coded for Operand {
 
 #[tactic(auto, unfolding(lq_codec::specs::Queries::wanted_codec))]
 impl Coded for Wanted {
-    ghost use Rattle.lq_codec.specs.Limits.{free};
+    ghost use Rattle.lq_codec.specs.State.{free};
     ghost use Rattle.lq_codec.specs.Queries.{wanted_codec};
 
     ghost codec = { wanted_codec };

@@ -5,7 +5,7 @@ use std::alloc::Global;
 
 #[tactic(auto, unfolding(lq_codec::specs::Queries::query_codec))]
 impl Coded for Query {
-    ghost use Rattle.lq_codec.specs.Limits.{has_levels};
+    ghost use Rattle.lq_codec.specs.State.{has_levels};
     ghost use Rattle.lq_codec.specs.Queries.{query_codec};
 
     ghost codec = { query_codec };

@@ -6,7 +6,7 @@ use std::alloc::Global;
 
 #[tactic(auto, unfolding(lq_codec::specs::Tables::column_codec), using(crate::proofs::Each::option_free))]
 impl Coded for Column {
-    ghost use Rattle.lq_codec.specs.Limits.{free};
+    ghost use Rattle.lq_codec.specs.State.{free};
     ghost use Rattle.lq_codec.specs.Tables.{column_codec};
 
     ghost codec = { column_codec };
@@ -41,7 +41,7 @@ impl Coded for Column {
 
 #[tactic(auto, unfolding(lq_codec::specs::Tables::key_codec))]
 impl Coded for Key {
-    ghost use Rattle.lq_codec.specs.Limits.{free};
+    ghost use Rattle.lq_codec.specs.State.{free};
     ghost use Rattle.lq_codec.specs.Tables.{key_codec};
 
     ghost codec = { key_codec };
@@ -64,7 +64,7 @@ impl Coded for Key {
 
 #[tactic(auto, unfolding(lq_codec::specs::Tables::unique_codec))]
 impl Coded for Unique {
-    ghost use Rattle.lq_codec.specs.Limits.{free};
+    ghost use Rattle.lq_codec.specs.State.{free};
     ghost use Rattle.lq_codec.specs.Tables.{unique_codec};
 
     ghost codec = { unique_codec };
@@ -87,7 +87,7 @@ impl Coded for Unique {
 
 #[tactic(auto, unfolding(lq_codec::specs::Tables::foreign_codec))]
 impl Coded for ForeignKey {
-    ghost use Rattle.lq_codec.specs.Limits.{free};
+    ghost use Rattle.lq_codec.specs.State.{free};
     ghost use Rattle.lq_codec.specs.Tables.{foreign_codec};
 
     ghost codec = { foreign_codec };
@@ -122,7 +122,7 @@ impl Coded for ForeignKey {
 
 #[tactic(auto, unfolding(lq_codec::specs::Tables::index_codec))]
 impl Coded for Index {
-    ghost use Rattle.lq_codec.specs.Limits.{free};
+    ghost use Rattle.lq_codec.specs.State.{free};
     ghost use Rattle.lq_codec.specs.Tables.{index_codec};
 
     ghost codec = { index_codec };

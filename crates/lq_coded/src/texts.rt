@@ -39,7 +39,7 @@ fn append_text(text: &str, to: &mut Vec<u8>) -> Result<(), NoMemory>
 }
 
 impl Coded for Text {
-    ghost use Rattle.lq_codec.specs.Limits.{free};
+    ghost use Rattle.lq_codec.specs.State.{free};
     ghost use Rattle.lq_codec.specs.Words.{text};
 
     ghost codec = { text };
@@ -62,7 +62,7 @@ impl Coded for Text {
 
 #[tactic(auto, unfolding(lq_codec::specs::Words::name))]
 impl Coded for Name {
-    ghost use Rattle.lq_codec.specs.Limits.{free};
+    ghost use Rattle.lq_codec.specs.State.{free};
     ghost use Rattle.lq_codec.specs.Words.{name};
 
     ghost codec = { name };

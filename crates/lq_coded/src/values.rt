@@ -4,7 +4,7 @@ use std::alloc::Global;
 
 #[tactic(auto, unfolding(lq_codec::specs::Values::value_codec))]
 impl Coded for Value {
-    ghost use Rattle.lq_codec.specs.Limits.{free};
+    ghost use Rattle.lq_codec.specs.State.{free};
     ghost use Rattle.lq_codec.specs.Values.{value_codec};
 
     ghost codec = { value_codec };
@@ -52,7 +52,7 @@ impl Coded for Value {
 
 #[tactic(auto, unfolding(lq_codec::specs::Values::literal_codec))]
 impl Coded for Literal {
-    ghost use Rattle.lq_codec.specs.Limits.{free};
+    ghost use Rattle.lq_codec.specs.State.{free};
     ghost use Rattle.lq_codec.specs.Values.{literal_codec};
 
     ghost codec = { literal_codec };

@@ -5,26 +5,22 @@ use Rattle.std.specs.Prelude.{Bool, Err, List, Ok, Result, [], is_none, is_some,
 use Rattle.lq_base.specs.declared.name.Name.{Name}
 use Rattle.lq_base.specs.declared.value.Value.{Value}
 use Rattle.lq_chain.specs.History.{History, changed}
-use Rattle.lq_model.specs.Catalogue.{Catalogue, Table, table_of, the_table}
-use Rattle.lq_model.specs.Look as look
+use Rattle.lq_model.specs.Catalogue.{Catalogue, Table, table_of, the_table, by_name, is_null, picked, has_column}
+use Rattle.lq_model.specs.Catalogue as look
 use Rattle.lq_model.specs.Plan.{Plan, decide}
-use Rattle.lq_model.specs.Row.{by_name, is_null, picked}
-use Rattle.lq_model.specs.TableNames.{has_column}
 use Rattle.lq_model.specs.declared.caller.By.{By}
 use Rattle.lq_model.specs.declared.column.Column.{Column}
 use Rattle.lq_model.proofs.Lists.{or_left, whether}
-use Rattle.lq_decide.specs.Faults.{Faults, has_null_in}
-use Rattle.lq_decide.specs.Judged.{judged}
+use Rattle.lq_decide.specs.Faults.{Faults, has_null_in, judged}
 use Rattle.lq_decide.proofs.Lists.{or-false}
-use Rattle.lq_rows.specs.Answers.{Answers, Means}
+use Rattle.lq_rows.specs.Stored.{Answers, Means}
 use Rattle.lq_rows.specs.declared.fault.RunFault.{RunFault}
 use Rattle.lq_rows.specs.declared.fault.RunFault.TheVariants.{OutOfMemory, Refused}
 use Rattle.lq_rows.proofs.Continued.{goes_on, stays}
 use Rattle.lq_arm.specs.Verdict.{tests_of, verdict_of}
 use Rattle.lq_arm.specs.declared.tests.Tests.{Tests}
 use Rattle.lq_arm.proofs.Arms.{is_there, there, verdict_err, verdict_ok}
-use Rattle.lq_columnops.specs.Done.{Done}
-use Rattle.lq_columnops.specs.OnColumn.{on_column, on_table}
+use Rattle.lq_columnops.specs.OnColumn.{Done, on_column, on_table}
 
 -- what is done as its tests have it is what the statement means
 pub answers : (p : Plan) (x : Faults) (tests : Tests) (after : Catalogue) (old new : History Catalogue) (result : Result ℕ RunFault) → decide p ≡ judged p x → verdict_of tests ≡ verdict_of (tests_of p x)

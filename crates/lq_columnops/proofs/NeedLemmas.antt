@@ -2,9 +2,7 @@
 use Rattle.std.proofs.Common.{Bool, ap, false, map, refl, true, ◌∙◌, ◌||◌, ◌≡◌}
 use Rattle.std.specs.List.{list_any}
 use Rattle.lq_base.specs.declared.name.Name.{Name}
-use Rattle.lq_model.specs.Names.{is_in}
-use Rattle.lq_model.specs.Catalogue.{Table}
-use Rattle.lq_model.specs.TableNames.{column_lists, key_list, target_lists}
+use Rattle.lq_model.specs.Catalogue.{is_in, Table, column_lists, key_list, target_lists}
 use Rattle.lq_model.specs.declared.constraint.Key.{Key}
 use Rattle.lq_model.specs.declared.constraint.Unique.{Unique}
 use Rattle.lq_model.specs.declared.index.Index.{Index}

@@ -7,21 +7,20 @@ use Rattle.lq_base.specs.declared.value.Value.{Value}
 use Rattle.lq_chain.specs.History.{History}
 use Rattle.lq_chain.specs.Marks.{replaced}
 use Rattle.lq_model.specs.Catalogue.{Catalogue, Table, table_of, the_table, with_table}
-use Rattle.lq_model.specs.Columns.{columns_without, row_without, with_column, without_column}
-use Rattle.lq_model.specs.Literals.{default_value}
+use Rattle.lq_model.specs.Tables.{columns_without, row_without, with_column, without_column}
+use Rattle.lq_model.specs.Kinds.{default_value}
 use Rattle.lq_model.specs.declared.column.Column.{Column}
 use Rattle.lq_model.proofs.Decide.{here}
 use Rattle.lq_model.proofs.Maps.{lookup-set_value}
 use Rattle.lq_model.proofs.Kept.{the_table-with_table, with_table-with_table}
 use Rattle.lq_decide.proofs.Touched.{length_mapped}
-use Rattle.lq_rows.specs.Answers.{Continues, Means}
-use Rattle.lq_rows.specs.Stored.{shape_of, with_all, with_shape}
+use Rattle.lq_rows.specs.Stored.{Continues, Means, shape_of, with_all, with_shape}
 use Rattle.lq_rows.specs.declared.fault.RunFault.{RunFault}
 use Rattle.lq_rows.specs.declared.shape.Shape.{Shape}
 use Rattle.lq_arm.proofs.Arms.{good}
 use Rattle.lq_arm.specs.Verdict.{verdict_of}
 use Rattle.lq_arm.specs.declared.tests.Tests.{Tests}
-use Rattle.lq_columnops.specs.Done.{Done}
+use Rattle.lq_columnops.specs.OnColumn.{Done}
 
 -- every row is replaced
 pub replaced_all : (f : List Value → List Value) (rows : List (List Value)) → replaced (map (λ r. Some (f r)) rows) rows ≡ map f rows

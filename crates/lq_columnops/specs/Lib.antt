@@ -1,3 +1,1 @@
-pub mod Change
-pub mod Done
 pub mod OnColumn

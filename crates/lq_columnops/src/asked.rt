@@ -1,6 +1,5 @@
 ghost use Rattle.std.specs.Prelude.{◌≡◌, ◌||◌, is_none, not};
-ghost use Rattle.lq_model.specs.Catalogue.{table_of, the_table};
-ghost use Rattle.lq_model.specs.TableNames.{has_column};
+ghost use Rattle.lq_model.specs.Catalogue.{table_of, the_table, has_column};
 ghost use Rattle.lq_columnops.specs.OnColumn.{on_column, on_table};
 
 use lq_arm::Tests;

@@ -1,10 +1,9 @@
 ghost use Rattle.std.specs.Prelude.{◌≡◌, IfOk, OnErr, OnOk, false, is_some, map, true};
 ghost use Rattle.lq_chain.specs.History.{changed};
 ghost use Rattle.lq_model.specs.Catalogue.{table_of, the_table, with_table};
-ghost use Rattle.lq_model.specs.ChangeColumn.{changed_at, with_changed};
+ghost use Rattle.lq_model.specs.Tables.{changed_at, with_changed};
 ghost use Rattle.lq_rows.specs.Stored.{shape_of};
-ghost use Rattle.lq_columnops.specs.Change.{applied};
-ghost use Rattle.lq_columnops.specs.Done.{Done};
+ghost use Rattle.lq_columnops.specs.OnColumn.{applied, Done};
 
 use lq_arm::Tests;
 use lq_base::{Duplicate, Items, Kind, Name, NoMemory, Value};

@@ -1,15 +1,13 @@
 ghost use Rattle.std.specs.List.{list_any};
 ghost use Rattle.std.specs.Prelude.{◌≡◌, ◌&&◌, Some, not};
 ghost use Rattle.lq_base.specs.Name.{is_named};
-ghost use Rattle.lq_model.specs.Catalogue.{the_table};
-ghost use Rattle.lq_model.specs.ChangeColumn as spec;
+ghost use Rattle.lq_model.specs.Catalogue.{the_table, has_null_in, by_name};
+ghost use Rattle.lq_model.specs.Tables as spec;
 ghost use Rattle.lq_model.specs.Kinds.{kind_in, kind_of, same_kind};
-ghost use Rattle.lq_model.specs.Look.{has_null_in};
 ghost use Rattle.lq_model.specs.Plan.{decide};
-ghost use Rattle.lq_model.specs.Row.{by_name};
 ghost use Rattle.lq_model.specs.Sound.{IsSound};
 ghost use Rattle.lq_base.specs.Value.{is_value_of};
-ghost use Rattle.lq_rows.specs.Answers.{Answers};
+ghost use Rattle.lq_rows.specs.Stored.{Answers};
 
 use crate::asked::column_tests;
 use crate::change::{Change, change_unless};

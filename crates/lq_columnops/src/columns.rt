@@ -1,14 +1,11 @@
 ghost use Rattle.std.specs.Prelude.{◌≡◌, ◌&&◌, false, is_some, not, true};
-ghost use Rattle.lq_model.specs.Catalogue.{table_of, the_table, with_table};
-ghost use Rattle.lq_model.specs.Columns as spec;
-ghost use Rattle.lq_model.specs.Literals.{default_value};
-ghost use Rattle.lq_model.specs.Names.{is_empty};
+ghost use Rattle.lq_model.specs.Catalogue.{table_of, the_table, with_table, is_empty, is_null, column_lists, has_column};
+ghost use Rattle.lq_model.specs.Tables as spec;
+ghost use Rattle.lq_model.specs.Kinds.{default_value};
 ghost use Rattle.lq_model.specs.Plan.{decide};
-ghost use Rattle.lq_model.specs.Row.{is_null};
 ghost use Rattle.lq_model.specs.Sound.{IsSound};
-ghost use Rattle.lq_model.specs.TableNames.{column_lists, has_column};
-ghost use Rattle.lq_rows.specs.Answers.{Answers};
-ghost use Rattle.lq_columnops.specs.Done.{Done};
+ghost use Rattle.lq_rows.specs.Stored.{Answers};
+ghost use Rattle.lq_columnops.specs.OnColumn.{Done};
 
 use crate::asked::{column_tests, table_tests};
 use crate::change::copied_shape;

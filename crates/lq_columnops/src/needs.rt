@@ -1,10 +1,8 @@
 ghost use Rattle.std.specs.List.{list_any};
 ghost use Rattle.std.specs.Option.{option_copied};
 ghost use Rattle.std.specs.Prelude.{◌≡◌, ◌||◌};
-ghost use Rattle.lq_model.specs.Catalogue.{the_table};
-ghost use Rattle.lq_model.specs.Names.{is_in};
-ghost use Rattle.lq_model.specs.Needs.{aims_at, is_aimed, is_bound, is_in_foreign, is_in_key, is_shown};
-ghost use Rattle.lq_model.specs.TableNames.{column_lists, key_list};
+ghost use Rattle.lq_model.specs.Catalogue.{the_table, is_in, column_lists, key_list};
+ghost use Rattle.lq_model.specs.Tables.{aims_at, is_aimed, is_bound, is_in_foreign, is_in_key, is_shown};
 
 use lq_base::Name;
 use lq_model::{ForeignKey, Index, Key, Unique};

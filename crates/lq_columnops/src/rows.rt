@@ -1,10 +1,9 @@
 ghost use Rattle.std.specs.Prelude.{◌≡◌, ◌++◌, ◌∷◌, [], IfOk, OnErr, OnOk, Some, is_some, length, map, true};
 ghost use Rattle.lq_chain.specs.Marks.{replaced};
 ghost use Rattle.lq_model.specs.Catalogue.{table_of, the_table, with_table};
-ghost use Rattle.lq_model.specs.Columns.{columns_without, row_without};
-ghost use Rattle.lq_model.specs.Literals.{default_value};
-ghost use Rattle.lq_rows.specs.Answers.{Continues};
-ghost use Rattle.lq_rows.specs.Stored.{with_all, with_shape};
+ghost use Rattle.lq_model.specs.Tables.{columns_without, row_without};
+ghost use Rattle.lq_model.specs.Kinds.{default_value};
+ghost use Rattle.lq_rows.specs.Stored.{Continues, with_all, with_shape};
 
 use lq_base::{Duplicate, Items, Name, NoMemory, Value};
 use lq_chain::Chain;

@@ -8,7 +8,7 @@ use Rattle.lq_base.specs.declared.name.Name.{Name}
 use Rattle.lq_model.proofs.Lists.{and_true}
 use Rattle.lq_tree.proofs.Says.{IsIfThere, IsSo, Takes, change_in_so, family_so, given, kind_so, name_so, optional_so, required_so, start, then_so}
 use Rattle.lq_tree.proofs.Schemas.{object_within}
-use Rattle.lq_tree.specs.Found.{Found}
+use Rattle.lq_tree.specs.Look.{Found}
 use Rattle.lq_tree.specs.Keys.{a_change_in, is_schema}
 use Rattle.lq_tree.specs.Values.{is_given}
 use Rattle.lq_tree.specs.declared.values.GivenValue.{GivenValue}

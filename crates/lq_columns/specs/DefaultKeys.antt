@@ -1,7 +1,7 @@
 -- The four keys that can state a default.
 use Rattle.std.specs.Prelude.{List, None, Option, Some, [], codes, ◌∷◌}
-use Rattle.lq_model.specs.Canon.{CanonicalValue, decimal_value, number, text, truth}
-use Rattle.lq_model.specs.Written.{Row}
+use Rattle.lq_model.specs.Changes.{CanonicalValue, decimal_value, number, text, truth}
+use Rattle.lq_model.specs.TakesBack.{Row}
 use Rattle.lq_tree.specs.Keys.{Keys}
 use Rattle.lq_tree.specs.Values.{family}
 use Rattle.lq_tree.specs.declared.values.GivenValue.{GivenValue}

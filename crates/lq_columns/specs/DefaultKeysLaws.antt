@@ -2,12 +2,12 @@
 use Rattle.std.proofs.Common.{ap}
 use Rattle.std.specs.Prelude.{refl, true, ℕ, ℤ, ◌≡◌}
 use Rattle.lq_base.specs.declared.literal.Literal.TheVariants as literal
+use Rattle.lq_columns.specs.DefaultKeys.{date_in, number_in, text_in, truth_in}
 use Rattle.lq_model.proofs.Told.{decimal_told, number_told, text_told, truth_told}
-use Rattle.lq_model.specs.Spelled.{is_literal}
+use Rattle.lq_model.specs.Comparison.{is_literal}
 use Rattle.lq_tree.specs.Values.{is_given, literal_of}
 use Rattle.lq_tree.specs.declared.values.GivenValue.{GivenValue}
 use Rattle.lq_tree.specs.declared.values.GivenValue.TheVariants.{Date, Decimal, Text, Truth, Whole}
-use Rattle.lq_columns.specs.DefaultKeys.{date_in, number_in, text_in, truth_in}
 
 same_fixed : {u w : ℤ} {s q : ℕ} → literal.Fixed u s ≡ literal.Fixed w q → Decimal u s ≡ Decimal w q
 same_fixed h = ap (λ l. elim l [ literal.Fixed u s ↦ Decimal u s | _ ↦ Truth true ]) h

@@ -1,5 +1,5 @@
 ghost use Rattle.std.specs.Prelude.{◌≡◌, IfOk, true};
-ghost use Rattle.lq_tree.specs.Found.{Reads};
+ghost use Rattle.lq_tree.specs.Look.{Reads};
 ghost use Rattle.lq_columns.specs.AddDefaultValue.{add_default_value, is_for};
 
 use crate::default_keys::{DefaultAt, default_value};
@@ -82,8 +82,7 @@ impl AddDefaultValue {
 }
 
 impl Change for AddDefaultValue {
-    ghost use Rattle.lq_columns.specs.AddDefaultValue.{canonical_of, effect, gives, inverse, is_for, is_fresh};
-    ghost use Rattle.lq_columns.specs.AddDefaultValueLaws.{does, restores, returned, spelled, told};
+    ghost use Rattle.lq_columns.specs.AddDefaultValue.{canonical_of, effect, gives, inverse, is_for, is_fresh, does, restores, returned, spelled, told};
     ghost use Rattle.lq_columns.specs.declared.add_default_value.AddDefaultValue.{AddDefaultValue};
 
     ghost Key = { AddDefaultValue };

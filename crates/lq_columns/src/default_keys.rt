@@ -1,7 +1,7 @@
 //! The four keys that can state a default, read and written.
 ghost use Rattle.std.specs.Prelude.{◌≡◌, IfOk, true};
-ghost use Rattle.lq_base.specs.Options.{if_there};
-ghost use Rattle.lq_tree.specs.Found.{Reads};
+ghost use Rattle.lq_base.specs.Number.{if_there};
+ghost use Rattle.lq_tree.specs.Look.{Reads};
 ghost use Rattle.lq_tree.specs.Values.{is_given};
 ghost use Rattle.lq_columns.specs.DefaultKeys.{default_keys};
 

@@ -1,5 +1,5 @@
 ghost use Rattle.std.specs.Prelude.{◌≡◌, IfOk, true};
-ghost use Rattle.lq_tree.specs.Found.{Reads};
+ghost use Rattle.lq_tree.specs.Look.{Reads};
 ghost use Rattle.lq_columns.specs.DropColumn.{is_for, drop_column};
 
 use lq_base::{Dialect, Duplicate, Items, KindFault, Name, NoMemory};
@@ -48,8 +48,7 @@ impl DropColumn {
 }
 
 impl Change for DropColumn {
-    ghost use Rattle.lq_columns.specs.DropColumn.{canonical_of, effect, gives, inverse, is_for, is_fresh};
-    ghost use Rattle.lq_columns.specs.DropColumnLaws.{does, restores, returned, spelled, told};
+    ghost use Rattle.lq_columns.specs.DropColumn.{canonical_of, effect, gives, inverse, is_for, is_fresh, does, restores, returned, spelled, told};
     ghost use Rattle.lq_columns.specs.declared.drop_column.DropColumn.{DropColumn};
 
     ghost Key = { DropColumn };

@@ -1,5 +1,5 @@
 ghost use Rattle.std.specs.Prelude.{◌≡◌, IfOk, true};
-ghost use Rattle.lq_tree.specs.Found.{Reads};
+ghost use Rattle.lq_tree.specs.Look.{Reads};
 ghost use Rattle.lq_columns.specs.DropDefaultValue.{is_for, drop_default_value};
 
 use lq_base::{Dialect, Duplicate, Items, Kind, KindFault, Name, NoMemory};
@@ -55,8 +55,7 @@ impl DropDefaultValue {
 }
 
 impl Change for DropDefaultValue {
-    ghost use Rattle.lq_columns.specs.DropDefaultValue.{canonical_of, effect, gives, inverse, is_for, is_fresh};
-    ghost use Rattle.lq_columns.specs.DropDefaultValueLaws.{does, restores, returned, spelled, told};
+    ghost use Rattle.lq_columns.specs.DropDefaultValue.{canonical_of, effect, gives, inverse, is_for, is_fresh, does, restores, returned, spelled, told};
     ghost use Rattle.lq_columns.specs.declared.drop_default_value.DropDefaultValue.{DropDefaultValue};
 
     ghost Key = { DropDefaultValue };

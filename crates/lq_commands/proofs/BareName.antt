@@ -9,9 +9,9 @@ use Rattle.std.specs.Prelude.{Bool, List, [], encode_utf8, encode_utf8_all, fals
 use Rattle.std.specs.Str.{chars}
 use Rattle.lq_turns.proofs.MarkRead.{bare_names_have_no_mark}
 use Rattle.lq_turns.specs.Stops.{is_mark}
-use Rattle.lq_base.specs.Character.{is_control}
+use Rattle.lq_base.specs.Number.{is_control}
 use Rattle.lq_words.specs.Words.{is_bar}
-use Rattle.lq_commands.specs.Who.{clean, kept}
+use Rattle.lq_commands.specs.Stamp.{clean, kept}
 
 other_than_bar : (b : ℕ) → 124 < b → is_bar b ≡ false
 other_than_bar b high = search (arith)

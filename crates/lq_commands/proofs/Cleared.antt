@@ -3,10 +3,10 @@ use Rattle.std.proofs.Common.{ap, refl, rules, subst, sym, tests}
 use Rattle.std.specs.Prelude.{Bool, Err, IfOk, List, Ok, Result, [], false, if◌then◌else◌, length, suc, true, ℕ, ◌==◌, ◌∷◌, ◌≡◌}
 use Rattle.lq_base.specs.declared.dialect.Dialect.{Dialect}
 use Rattle.lq_base.specs.declared.tracking.Tracked.{Tracked}
-use Rattle.lq_model.specs.Names.{is_empty}
+use Rattle.lq_model.specs.Catalogue.{is_empty}
 use Rattle.lq_report.specs.Output.{cleared_text}
 use Rattle.lq_run.specs.Commands.{HasDatabase, Leaves}
-use Rattle.lq_store.specs.State.{State}
+use Rattle.lq_store.specs.Journal.{State}
 use Rattle.lq_tell.specs.declared.done.Done.{Done}
 use Rattle.lq_tell.specs.declared.status.Status.{Status}
 use Rattle.lq_track.specs.Database.{Database}

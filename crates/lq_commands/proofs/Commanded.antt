@@ -2,7 +2,7 @@
 use Rattle.std.proofs.Common.{ap, inl, inr, refl, subst, sym, ◌∙◌}
 use Rattle.std.specs.Option.{option_or}
 use Rattle.std.specs.Prelude.{Err, IfErr, IfOk, List, None, Ok, Option, Result, Some, [], false, option_map, true, ℕ, ◌∷◌, ◌≡◌, ◌≤◌}
-use Rattle.lq_base.specs.Character.{char_count}
+use Rattle.lq_base.specs.Number.{char_count}
 use Rattle.lq_base.specs.declared.command.Command.{Command}
 use Rattle.lq_base.specs.declared.command.Target.{Target}
 use Rattle.lq_base.specs.declared.dialect.Dialect.{Dialect}
@@ -12,22 +12,20 @@ use Rattle.lq_beside.proofs.OtherFits.{tag_fits}
 use Rattle.lq_beside.specs.Replays.{calls_fit}
 use Rattle.lq_model.specs.declared.fault.StoreFault.{StoreFault}
 use Rattle.lq_model.specs.declared.fault.StoreFault.TheVariants.{Disk}
-use Rattle.lq_outside.specs.Count.{Rose}
+use Rattle.lq_outside.specs.Forms.{Rose}
 use Rattle.lq_report.specs.Output.{status_text}
 use Rattle.lq_run.specs.Commands.{HasDatabase}
 use Rattle.lq_run.specs.Crashes.{BehindTagged, CrashesTagged, LeftBehind}
 use Rattle.lq_run.specs.Left.{LeavesOnce, LeavesTagged}
 use Rattle.lq_store.specs.Calls.{CountsDisk}
-use Rattle.lq_store.specs.Crashes.{Crashes}
-use Rattle.lq_store.specs.State.{State}
+use Rattle.lq_store.specs.Journal.{Crashes, State}
 use Rattle.lq_tell.specs.declared.done.Done.{Done}
 use Rattle.lq_tell.specs.declared.status.Status.{Status}
 use Rattle.lq_tell.specs.declared.status.Status.TheVariants as status
 use Rattle.lq_track.specs.Database.{Database}
 use Rattle.lq_track.specs.Log.{identity_of}
-use Rattle.lq_turns.specs.Pending.{pending}
-use Rattle.lq_turns.specs.Rollback.{rows_kept, rows_undone}
-use Rattle.lq_turns.specs.Script.{last_row, tag_calls}
+use Rattle.lq_turns.specs.Printed.{pending}
+use Rattle.lq_turns.specs.Script.{rows_kept, rows_undone, last_row, tag_calls}
 use Rattle.lq_turns.specs.Session.{session_on}
 use Rattle.lq_turns.specs.declared.call.Call.{Call}
 use Rattle.lq_turns.specs.declared.fault.Fault.{Fault}
@@ -35,8 +33,7 @@ use Rattle.lq_commands.proofs.Warned.{quiet_lines}
 use Rattle.lq_commands.specs.Outputs.{TellsText}
 use Rattle.lq_commands.specs.Refusals.{Answers, IsFault, Passes, ends, fault_status, if_some, irreversible, no_way_back, refusal, unreachable_by}
 use Rattle.lq_commands.specs.Scripts.{script, sets_in}
-use Rattle.lq_commands.specs.Tells.{IsQuiet}
-use Rattle.lq_commands.specs.Works.{CrashesIn, IsKept, OnIts, RestsFull, Works, is_finished}
+use Rattle.lq_commands.specs.Works.{IsQuiet, CrashesIn, IsKept, OnIts, RestsFull, Works, is_finished}
 use Rattle.lq_commands.specs.declared.given.Given.{Given}
 
 not_true : false ≡ true → ⊥

@@ -14,9 +14,7 @@ use Rattle.lq_run.specs.Crashes.{LeftBehind, LeftInCommand}
 use Rattle.lq_run.specs.Left.{LeavesOnce, LeftAs, RestsIn}
 use Rattle.lq_run.specs.declared.runner.End.{End}
 use Rattle.lq_run.specs.declared.runner.End.TheVariants as end
-use Rattle.lq_store.specs.Crashes.{Crashes}
-use Rattle.lq_store.specs.Journal.{Entry}
-use Rattle.lq_store.specs.State.{State}
+use Rattle.lq_store.specs.Journal.{Crashes, Entry, State}
 use Rattle.lq_tell.specs.declared.done.Done.{Done}
 use Rattle.lq_tell.specs.declared.status.Status.{Status}
 use Rattle.lq_tell.specs.declared.status.Status.TheVariants as status

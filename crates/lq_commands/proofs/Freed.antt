@@ -9,27 +9,25 @@ use Rattle.lq_cli.specs.declared.line.Job.TheVariants.{RollbackSql, UpdateSql}
 use Rattle.lq_model.specs.declared.fault.StoreFault.{StoreFault}
 use Rattle.lq_model.specs.declared.fault.StoreFault.TheVariants.{Disk}
 use Rattle.lq_run.specs.Commands.{HasDatabase, Leaves}
-use Rattle.lq_seen.specs.Printing.{Account}
+use Rattle.lq_seen.specs.Telling.{Account}
 use Rattle.lq_stand.specs.Stays.{IsClean}
 use Rattle.lq_store.specs.Calls.{CountsDisk}
-use Rattle.lq_store.specs.State.{State}
+use Rattle.lq_store.specs.Journal.{State}
 use Rattle.lq_tell.specs.declared.done.Done.{Done}
 use Rattle.lq_tell.specs.declared.status.Status.{Status}
 use Rattle.lq_tell.specs.declared.status.Status.TheVariants as status
 use Rattle.lq_track.specs.Database.{Database}
 use Rattle.lq_turns.proofs.AtOnce.{release_leaves}
-use Rattle.lq_turns.specs.Contents.{contents_of}
+use Rattle.lq_turns.specs.Deed.{contents_of}
 use Rattle.lq_turns.specs.Laws.{at_rest}
-use Rattle.lq_turns.specs.Rollback.{rows_kept}
-use Rattle.lq_turns.specs.Script.{closing, release_calls}
+use Rattle.lq_turns.specs.Script.{rows_kept, closing, release_calls}
 use Rattle.lq_turns.specs.Session.{left_by}
 use Rattle.lq_turns.specs.Settle.{greatest}
 use Rattle.lq_commands.proofs.Endings.{leaves_nothing}
 use Rattle.lq_commands.specs.Outputs.{TellsJob}
 use Rattle.lq_commands.specs.Refusals.{invalid, no_way_back, own_halt, print_rollback, print_update, refusal}
 use Rattle.lq_commands.specs.Scripts.{rolled_to}
-use Rattle.lq_commands.specs.Tells.{EndsRollback}
-use Rattle.lq_commands.specs.Works.{IsReady}
+use Rattle.lq_commands.specs.Works.{EndsRollback, IsReady}
 use Rattle.lq_commands.specs.declared.given.Given.{Given}
 
 -- a lock that is free

@@ -1,13 +1,12 @@
 -- A changelog is generated, or is not: the store is as it was.
 use Rattle.std.specs.Prelude.{Err, IfOk, List, Ok, Result, [], ℕ, ◌≡◌}
 use Rattle.lq_cli.specs.declared.line.Job.TheVariants.{Generate}
-use Rattle.lq_store.specs.Crashes.{Crashes}
-use Rattle.lq_store.specs.State.{State}
+use Rattle.lq_store.specs.Journal.{Crashes, State}
 use Rattle.lq_tell.specs.declared.done.Done.{Done}
 use Rattle.lq_tell.specs.declared.status.Status.{Status}
 use Rattle.lq_tell.specs.declared.status.Status.TheVariants as status
 use Rattle.lq_commands.proofs.Endings.{untouched_crashes, works_nothing}
-use Rattle.lq_commands.specs.Generates.{generate_text}
+use Rattle.lq_commands.specs.Rehearsal.{generate_text}
 use Rattle.lq_commands.specs.Outputs.{TellsJob, EndsText, TellsText}
 use Rattle.lq_commands.proofs.Warned.{none_up_to}
 use Rattle.lq_commands.specs.Works.{CrashesIn, OnIts, Works}

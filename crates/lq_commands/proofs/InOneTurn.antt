@@ -4,24 +4,21 @@ use Rattle.std.specs.Prelude.{Bool, Err, List, None, Ok, Option, Result, [], fal
 use Rattle.lq_base.specs.declared.dialect.Dialect.{Dialect}
 use Rattle.lq_base.specs.declared.reason.Reason.{Reason}
 use Rattle.lq_beside.specs.Replays.{calls_fit}
-use Rattle.lq_hand.specs.Counts.{coming_of, no_progress, with_accepted}
+use Rattle.lq_hand.specs.Way.{coming_of, no_progress, with_accepted, Way, refused_by, refused_in}
 use Rattle.lq_hand.specs.Hand.{calls_left, hand_place, place_of}
-use Rattle.lq_hand.specs.Way.{Way, refused_by, refused_in}
 use Rattle.lq_hand.specs.declared.hand.Phase.TheVariants as phase
 use Rattle.lq_hand.specs.declared.progress.Progress.{Progress}
 use Rattle.lq_run.proofs.Scripts.{script_inside}
 use Rattle.lq_run.specs.Commands.{HasDatabase, KnowsContents, SomeMayRun, TellsAll, both_on, script}
-use Rattle.lq_run.specs.NoChanges.{no_changes}
+use Rattle.lq_run.specs.Stands.{no_changes}
 use Rattle.lq_run.specs.Steps.{KnownIn, Standing, TellsAs, enters_turns, place}
 use Rattle.lq_run.specs.declared.runner.End.{End}
-use Rattle.lq_store.specs.State.{State}
+use Rattle.lq_store.specs.Journal.{State}
 use Rattle.lq_track.specs.Database.{Database}
-use Rattle.lq_turns.specs.Contents.{Contents, contents_of}
-use Rattle.lq_turns.specs.Deed.{contents_after}
-use Rattle.lq_turns.specs.Goes.{accepted_by, are_accepted}
+use Rattle.lq_turns.specs.Deed.{Contents, contents_of, contents_after}
+use Rattle.lq_turns.specs.Session.{accepted_by, are_accepted, session_on}
 use Rattle.lq_turns.specs.Rest.{Inside, NoMore, if_goes_on}
 use Rattle.lq_turns.specs.Script.{with_lock}
-use Rattle.lq_turns.specs.Session.{session_on}
 use Rattle.lq_turns.specs.Set.{Meaning}
 use Rattle.lq_turns.specs.Turn.{made}
 use Rattle.lq_turns.specs.declared.call.Call.{Call}
@@ -29,7 +26,7 @@ use Rattle.lq_turns.specs.declared.call.Call.TheVariants.{Abort, Alone, Begin, C
 use Rattle.lq_turns.specs.declared.stamp.Stamp.{Stamp}
 use Rattle.lq_turns.specs.declared.stop.Refusal.{Refusal}
 use Rattle.lq_commands.proofs.Starts.{AllOn, may_run}
-use Rattle.lq_commands.specs.Stopping.{one_way}
+use Rattle.lq_commands.specs.Scripts.{one_way}
 
 not_true : false ≡ true → ⊥
 not_true h = Prim.cc

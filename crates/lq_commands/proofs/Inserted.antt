@@ -9,9 +9,8 @@ use Rattle.lq_base.specs.declared.reason.Reason.TheVariants.{TooManyRows, TooWid
 use Rattle.lq_base.specs.declared.run.Happened.{Happened}
 use Rattle.lq_base.specs.declared.tracking.Tracked.{Tracked}
 use Rattle.lq_beside.specs.Replays.{calls_fit}
-use Rattle.lq_changelog.specs.ShortTexts.{HasShortTexts}
-use Rattle.lq_hand.specs.Counts.{no_progress}
-use Rattle.lq_hand.specs.Way.{refused_by, refused_in}
+use Rattle.lq_changelog.specs.Gathers.{HasShortTexts}
+use Rattle.lq_hand.specs.Way.{no_progress, refused_by, refused_in}
 use Rattle.lq_model.proofs.Lists.{and_right}
 use Rattle.lq_report.specs.Output.{sync_text}
 use Rattle.lq_run.proofs.Scripts.{sync_holds}
@@ -20,18 +19,17 @@ use Rattle.lq_run.specs.Ends.{AllHoldOn}
 use Rattle.lq_run.specs.Steps.{TellsAs}
 use Rattle.lq_run.specs.declared.runner.End.{End}
 use Rattle.lq_run.specs.declared.runner.End.TheVariants as end
-use Rattle.lq_back.specs.SyncTurn.{insert_call, sync_calls}
-use Rattle.lq_store.specs.State.{State}
+use Rattle.lq_back.specs.Reversal.{insert_call, sync_calls}
+use Rattle.lq_store.specs.Journal.{State}
 use Rattle.lq_tell.specs.declared.done.Done.{Done}
 use Rattle.lq_tell.specs.declared.status.Status.{Status}
 use Rattle.lq_tell.specs.declared.status.Status.TheVariants as status
 use Rattle.lq_track.specs.Database.{Database}
 use Rattle.lq_track.specs.Log.{identity_of}
-use Rattle.lq_turns.specs.Contents.{Contents, contents_of}
-use Rattle.lq_turns.specs.Deed.{has_place, if_accepted, rows_after}
+use Rattle.lq_turns.specs.Deed.{Contents, contents_of, has_place, if_accepted, rows_after}
 use Rattle.lq_turns.specs.Script.{rows_to_sync, with_lock}
 use Rattle.lq_turns.specs.Session.{session_on}
-use Rattle.lq_turns.specs.Synced.{insert_stop, marked_by, stop_then, synced_by}
+use Rattle.lq_turns.specs.Laws.{insert_stop, marked_by, stop_then, synced_by}
 use Rattle.lq_turns.specs.Turn.{made}
 use Rattle.lq_turns.specs.declared.call.Call.{Call}
 use Rattle.lq_turns.specs.declared.call.Call.TheVariants.{Commit}
@@ -44,11 +42,8 @@ use Rattle.lq_commands.proofs.Endings.{works_nothing}
 use Rattle.lq_commands.proofs.LoadedTexts.{view_has}
 use Rattle.lq_commands.proofs.Planned.{no_sync, sync_is, sync_may}
 use Rattle.lq_commands.proofs.Warned.{quiet_lines, quiet_up_to}
-use Rattle.lq_commands.specs.Inserts.{EndsWithRows, EndsSync, TellsSync, goes_in, refusal_in, sync_out, synced_in}
-use Rattle.lq_commands.specs.Scripts.{sets_in, sync_script}
-use Rattle.lq_commands.specs.Stopping.{NamesStop, one_way, refused_at}
-use Rattle.lq_commands.specs.Tells.{IsQuiet, status_by, stop_by}
-use Rattle.lq_commands.specs.Works.{OnIts, Works, is_finished, is_whole}
+use Rattle.lq_commands.specs.Works.{EndsWithRows, EndsSync, TellsSync, goes_in, refusal_in, sync_out, synced_in, IsQuiet, status_by, stop_by, OnIts, Works, is_finished, is_whole}
+use Rattle.lq_commands.specs.Scripts.{sets_in, sync_script, NamesStop, one_way, refused_at}
 use Rattle.lq_commands.specs.declared.given.Given.{Given}
 
 not_true : false ≡ true → ⊥

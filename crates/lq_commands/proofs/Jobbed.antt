@@ -7,8 +7,7 @@ use Rattle.lq_cli.specs.declared.line.Job.{Job}
 use Rattle.lq_cli.specs.declared.line.Job.TheVariants.{ClearSums, History, UpdateCount, UpdateTo}
 use Rattle.lq_report.specs.Output.{cleared_text, history_text}
 use Rattle.lq_run.specs.Commands.{HasDatabase}
-use Rattle.lq_store.specs.Crashes.{Crashes}
-use Rattle.lq_store.specs.State.{State}
+use Rattle.lq_store.specs.Journal.{Crashes, State}
 use Rattle.lq_tell.specs.declared.done.Done.{Done}
 use Rattle.lq_tell.specs.declared.status.Status.{Status}
 use Rattle.lq_tell.specs.declared.status.Status.TheVariants as status
@@ -21,11 +20,10 @@ use Rattle.lq_commands.proofs.Telling.{failed_tells, on_its_tells, text_ends}
 use Rattle.lq_commands.proofs.Warned.{quiet_lines}
 use Rattle.lq_commands.specs.Jobs.{DidJob, job_refusal, job_script}
 use Rattle.lq_commands.specs.Outputs.{TellsJob, EndsText, TellsText}
-use Rattle.lq_commands.specs.Parts.{counted_in}
+use Rattle.lq_commands.specs.Rehearsal.{counted_in}
 use Rattle.lq_commands.specs.Refusals.{Answers, held, refusal}
 use Rattle.lq_commands.specs.Scripts.{update_script, updated_in}
-use Rattle.lq_commands.specs.Tells.{EndsUpdate, IsQuiet}
-use Rattle.lq_commands.specs.Works.{CrashesIn, IsKept, OnIts, Works}
+use Rattle.lq_commands.specs.Works.{EndsUpdate, IsQuiet, CrashesIn, IsKept, OnIts, Works}
 use Rattle.lq_commands.specs.declared.given.Given.{Given}
 
 false_true : false ≡ true → ⊥

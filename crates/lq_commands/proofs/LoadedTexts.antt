@@ -4,8 +4,8 @@ use Rattle.std.proofs.lemmas.List.Elements.{All-map}
 use Rattle.std.specs.List.{All}
 use Rattle.std.specs.Option.{option_or}
 use Rattle.std.specs.Prelude.{IfSome, List, Option, [], slice_index_or, suc, ℕ, ◌∷◌, ◌≤◌}
-use Rattle.lq_base.specs.Character.{char_count}
-use Rattle.lq_beside.specs.Fitting.{HasTexts}
+use Rattle.lq_base.specs.Number.{char_count}
+use Rattle.lq_beside.specs.Replays.{HasTexts}
 use Rattle.lq_expr.specs.declared.options.Options.{Options}
 use Rattle.lq_kinds.specs.declared.any_change.AnyChange.{AnyChange}
 use Rattle.lq_kinds.specs.declared.any_change.AnyChange.TheVariants.{TagDatabase}
@@ -13,7 +13,7 @@ use Rattle.lq_kinds.specs.declared.change_set.ChangeSet.{ChangeSet}
 use Rattle.lq_kinds.specs.declared.change_set.Changelog.{Changelog}
 use Rattle.lq_seen.specs.View.{tag_by, tag_of, view, view_log}
 use Rattle.lq_changelog.proofs.Names.{names_utf8}
-use Rattle.lq_changelog.specs.ShortTexts.{HasShortTag, HasShortTexts}
+use Rattle.lq_changelog.specs.Gathers.{HasShortTag, HasShortTexts}
 
 abbrev IsShort : Option (List ℕ) → Type 0
 IsShort tag = IfSome tag (λ t. char_count t ≤ 255)

@@ -10,15 +10,15 @@ use Rattle.lq_base.specs.declared.tracking.Tracked.{Tracked}
 use Rattle.lq_tell.specs.declared.status.Status.{Status}
 use Rattle.lq_tell.specs.declared.status.Status.TheVariants as status
 use Rattle.lq_track.specs.Database.{Database}
-use Rattle.lq_turns.specs.Contents.{contents_of}
+use Rattle.lq_turns.specs.Deed.{contents_of}
 use Rattle.lq_turns.specs.Faults.{faults}
-use Rattle.lq_turns.specs.Rollback.{not_reversible, rows_kept, rows_undone}
+use Rattle.lq_turns.specs.Script.{not_reversible, rows_kept, rows_undone}
 use Rattle.lq_turns.specs.Settle.{own_choice}
 use Rattle.lq_turns.specs.declared.choice.Choice.{Choice}
 use Rattle.lq_turns.specs.declared.choice.Choice.TheVariants as choice
 use Rattle.lq_turns.specs.declared.fault.Fault.{Fault}
 use Rattle.lq_seen.specs.View.{any_meaning}
-use Rattle.lq_commands.specs.Kinds.{is_diskless}
+use Rattle.lq_commands.specs.Jobs.{is_diskless}
 use Rattle.lq_commands.specs.Refusals.{held, if_halts, if_not, if_some, invalid, no_way_back, own_halt, print_rollback, print_update, refusal, unreachable_by, unready, untagged}
 use Rattle.lq_commands.specs.Rehearsal.{bound_by, rehearsal_refusal, unrehearsed}
 use Rattle.lq_commands.specs.Scripts.{log_in, sets_in}

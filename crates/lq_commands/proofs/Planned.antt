@@ -8,25 +8,22 @@ use Rattle.lq_base.specs.declared.run.OnFail.TheVariants.{Continue}
 use Rattle.lq_base.specs.declared.tracking.Tracked.{Tracked}
 use Rattle.lq_beside.proofs.OtherFits.{rollback_fits, sync_fits}
 use Rattle.lq_beside.proofs.UpdateFits.{update_fits}
-use Rattle.lq_beside.specs.Fitting.{HasTexts, is_deleted, is_return}
-use Rattle.lq_beside.specs.Replays.{calls_fit}
+use Rattle.lq_beside.specs.Replays.{HasTexts, is_deleted, is_return, calls_fit}
 use Rattle.lq_kinds.specs.AnyChangeLaws.{does, restores, spelled}
-use Rattle.lq_kinds.specs.Dialects.{AreFor}
+use Rattle.lq_kinds.specs.AnyChange.{AreFor}
 use Rattle.lq_kinds.specs.declared.any_change.AnyChange.{AnyChange}
 use Rattle.lq_model.proofs.Lists.{and_left, and_right, and_true}
 use Rattle.lq_model.specs.Sound.{IsSound}
-use Rattle.lq_model.specs.Statement.{is_statement}
-use Rattle.lq_plan.specs.Work.{item_at, work_from}
+use Rattle.lq_model.specs.Step.{is_statement}
+use Rattle.lq_plan.specs.Told.{item_at, work_from}
 use Rattle.lq_plan.specs.declared.turns.Item.{Item}
 use Rattle.lq_commands.proofs.ViewsRead.{views_are_read}
-use Rattle.lq_back.specs.RowTurns.{goes_back, is_deletion}
-use Rattle.lq_back.specs.SyncTurn.{sync_calls}
+use Rattle.lq_back.specs.Reversal.{goes_back, is_deletion, sync_calls}
 use Rattle.lq_seen.specs.View.{any_meaning}
 use Rattle.lq_track.specs.Database.{Database, has_twin_rows}
-use Rattle.lq_turns.specs.Contents.{contents_of}
+use Rattle.lq_turns.specs.Deed.{contents_of}
 use Rattle.lq_turns.specs.Rest.{OfRows, OfSets}
-use Rattle.lq_turns.specs.Rollback.{rollback_of, rows_kept, rows_undone, undo_turns}
-use Rattle.lq_turns.specs.Script.{has_work, rows_to_sync, sync_of, update_calls, with_lock}
+use Rattle.lq_turns.specs.Script.{rollback_of, rows_kept, rows_undone, undo_turns, has_work, rows_to_sync, sync_of, update_calls, with_lock}
 use Rattle.lq_turns.specs.Session.{session_on}
 use Rattle.lq_turns.specs.Set.{Changelog, Condition, IsKept as Keeps, Set}
 use Rattle.lq_turns.specs.Settle.{is_halt, own_choice, what}
@@ -37,8 +34,7 @@ use Rattle.lq_turns.specs.declared.deed.OnRows.{OnRows}
 use Rattle.lq_turns.specs.declared.deed.OnRows.TheVariants.{Cleared, Deleted, Filled, Inserted, Renewed, Tagged}
 use Rattle.lq_turns.specs.declared.stamp.Stamp.{Stamp}
 use Rattle.lq_turns.specs.declared.turn.Turn.{Turn}
-use Rattle.lq_commands.specs.Scripts.{log_in, rollback_script, rollback_to, sets_in, sets_script, sync_script, taking_back, update_script}
-use Rattle.lq_commands.specs.Turns.{turns_script}
+use Rattle.lq_commands.specs.Scripts.{log_in, rollback_script, rollback_to, sets_in, sets_script, sync_script, taking_back, update_script, turns_script}
 use Rattle.lq_commands.specs.declared.given.Given.{Given}
 
 pub kept : Keeps any_meaning

@@ -15,26 +15,24 @@ use Rattle.lq_base.specs.declared.tracking.Tracked.{Tracked}
 use Rattle.lq_run.specs.Commands.{HasDatabase, LeavesAs}
 use Rattle.lq_run.specs.Crashes.{LeftBehind}
 use Rattle.lq_hand.specs.Way.{IsUnderWay}
-use Rattle.lq_run.specs.UnderWay.{TellsTo}
-use Rattle.lq_seen.specs.Telling.{WarnsFirst}
+use Rattle.lq_run.specs.Steps.{TellsTo}
+use Rattle.lq_seen.specs.Telling.{WarnsFirst, Account, of_turns}
 use Rattle.lq_run.specs.declared.runner.End.{End}
 use Rattle.lq_run.specs.declared.runner.End.TheVariants as end
-use Rattle.lq_back.specs.RowTurns.{LeadsBack, goes_back, row_way}
-use Rattle.lq_seen.specs.Printing.{Account, of_turns}
+use Rattle.lq_back.specs.Reversal.{LeadsBack, goes_back, row_way}
 use Rattle.lq_seen.specs.View.{any_meaning}
 use Rattle.lq_seen.specs.declared.outcome.Outcome.{Outcome}
 use Rattle.lq_back.specs.declared.reversal.TakenBack.{TakenBack}
 use Rattle.lq_back.specs.declared.row_turns.RowTurns.{RowTurns}
-use Rattle.lq_store.specs.Crashes.{Crashes}
-use Rattle.lq_store.specs.State.{State}
+use Rattle.lq_store.specs.Journal.{Crashes, State}
 use Rattle.lq_tell.specs.Lines.{warning_line, warning_lines}
 use Rattle.lq_tell.specs.declared.done.Done.{Done}
 use Rattle.lq_tell.specs.declared.status.Status.{Status}
 use Rattle.lq_tell.specs.declared.status.Status.TheVariants as status
 use Rattle.lq_track.specs.Database.{Database}
-use Rattle.lq_turns.specs.Contents.{Contents, contents_of}
+use Rattle.lq_turns.specs.Deed.{Contents, contents_of}
 use Rattle.lq_turns.specs.Rest.{OfRows}
-use Rattle.lq_turns.specs.Rollback.{not_reversible, rollback_of, rows_kept, rows_undone, undo_turn, undo_turns}
+use Rattle.lq_turns.specs.Script.{not_reversible, rollback_of, rows_kept, rows_undone, undo_turn, undo_turns}
 use Rattle.lq_turns.specs.declared.call.Call.{Call}
 use Rattle.lq_turns.specs.declared.stamp.Stamp.{Stamp}
 use Rattle.lq_turns.specs.declared.turn.Turn.{Turn}
@@ -44,12 +42,10 @@ use Rattle.lq_commands.proofs.Planned.{goes_to, rollback_is, rollback_may, taken
 use Rattle.lq_commands.proofs.PlainRefusals.{IsPlain, refusal_plain}
 use Rattle.lq_commands.proofs.Updated.{all_told, warns_so}
 use Rattle.lq_commands.proofs.Warned.{quiet_lines, quiet_up_to}
-use Rattle.lq_commands.specs.Kinds.{is_diskless}
+use Rattle.lq_commands.specs.Jobs.{is_diskless}
 use Rattle.lq_commands.specs.Refusals.{Answers, Passes, if_not, irreversible, no_way_back, refusal, unreachable_by, unready}
-use Rattle.lq_commands.specs.Scripts.{nothing_told, rollback_script, rolled_back, rolled_to, sets_in, taking_back}
-use Rattle.lq_commands.specs.Tells.{HasTold, IsQuiet, EndsRollback, TellsRollback, rollback_output, status_by, stop_by}
-use Rattle.lq_commands.specs.Turns.{MayTurn, turns_script}
-use Rattle.lq_commands.specs.Works.{CrashesIn, FullAs, IsKept, OnIts, TellsFull, Works, is_finished, is_whole}
+use Rattle.lq_commands.specs.Scripts.{nothing_told, rollback_script, rolled_back, rolled_to, sets_in, taking_back, MayTurn, turns_script}
+use Rattle.lq_commands.specs.Works.{HasTold, IsQuiet, EndsRollback, TellsRollback, rollback_output, status_by, stop_by, CrashesIn, FullAs, IsKept, OnIts, TellsFull, Works, is_finished, is_whole}
 use Rattle.lq_commands.specs.declared.given.Given.{Given}
 
 not_true : false ≡ true → ⊥

@@ -9,9 +9,9 @@ use Rattle.lq_beside.proofs.TablesRead.{map_some}
 use Rattle.lq_model.specs.declared.fault.StoreFault.{StoreFault}
 use Rattle.lq_run.specs.Commands.{HasDatabase, Leaves}
 use Rattle.lq_run.specs.Left.{LeavesOnce}
-use Rattle.lq_store.specs.State.{State, seen, seen_in}
+use Rattle.lq_store.specs.Journal.{State, seen, seen_in}
 use Rattle.lq_track.specs.Database.{Database, lock_of, rows_of}
-use Rattle.lq_turns.specs.Held.{StandsFor}
+use Rattle.lq_turns.specs.Schedule.{StandsFor}
 use Rattle.lq_turns.specs.Script.{last_row}
 use Rattle.lq_turns.specs.declared.call.Call.{Call}
 use Rattle.lq_commands.proofs.Endings.{full_once}

@@ -9,8 +9,7 @@ use Rattle.lq_run.proofs.Rooms.{both_rooms, sizes}
 use Rattle.lq_run.specs.Commands.{Leaves}
 use Rattle.lq_run.specs.Left.{ClosesHeld, HasClosing, IsFrontIn, IsFullIn, IsNextIn}
 use Rattle.lq_run.specs.Stands.{HadRoom, entries_of, entry_of}
-use Rattle.lq_store.specs.Journal.{end_of, is_full, size_of_all}
-use Rattle.lq_store.specs.State.{State}
+use Rattle.lq_store.specs.Journal.{end_of, is_full, size_of_all, State}
 use Rattle.lq_tell.specs.declared.status.Status.{Status}
 use Rattle.lq_track.specs.Database.{Database}
 use Rattle.lq_track.specs.Lock.{free}

@@ -12,15 +12,13 @@ use Rattle.lq_model.specs.declared.fault.StoreFault.{StoreFault}
 use Rattle.lq_run.proofs.Rooms.{no_entries}
 use Rattle.lq_run.specs.Commands.{HasDatabase, KnowsContents, OnAll, SomeMayRun, TellsAll, both_on, script}
 use Rattle.lq_run.specs.Stands.{IsBegun, Stands}
-use Rattle.lq_run.specs.Steps.{KnownIn, Standing, enters_turns, no_turn, place, standing, turns_of}
-use Rattle.lq_run.specs.UnderWay.{TellsTo}
+use Rattle.lq_run.specs.Steps.{KnownIn, Standing, enters_turns, no_turn, place, standing, turns_of, TellsTo}
 use Rattle.lq_run.specs.declared.runner.End.{End}
 use Rattle.lq_run.specs.declared.runner.Runner.{Runner}
-use Rattle.lq_store.specs.Journal.{Entry}
-use Rattle.lq_store.specs.State.{State}
+use Rattle.lq_store.specs.Journal.{Entry, State}
 use Rattle.lq_track.specs.Database.{Database}
-use Rattle.lq_turns.specs.Contents.{contents_of}
-use Rattle.lq_turns.specs.Held.{StandsFor}
+use Rattle.lq_turns.specs.Deed.{contents_of}
+use Rattle.lq_turns.specs.Schedule.{StandsFor}
 use Rattle.lq_turns.specs.Rest.{Turns, between, if_goes_on}
 use Rattle.lq_turns.specs.Session.{session_on}
 use Rattle.lq_turns.specs.Set.{Meaning}
@@ -28,7 +26,7 @@ use Rattle.lq_turns.specs.Stops.{is_mark}
 use Rattle.lq_turns.specs.declared.call.Call.{Call}
 use Rattle.lq_turns.specs.declared.stamp.Stamp.{Stamp}
 use Rattle.lq_turns.specs.declared.stop.Refusal.{Refusal}
-use Rattle.lq_commands.specs.Turns.{MayTurn, turns_script}
+use Rattle.lq_commands.specs.Scripts.{MayTurn, turns_script}
 
 no_more : (o : Option (List Entry)) → o ≡ option_map (λ (entries : List Entry). entries ++ []) o
 no_more None = refl

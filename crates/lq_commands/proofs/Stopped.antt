@@ -6,35 +6,30 @@ use Rattle.lq_base.specs.declared.identity.Identity.{Identity}
 use Rattle.lq_base.specs.declared.run.Did.{Did}
 use Rattle.lq_base.specs.declared.run.Did.TheVariants as did
 use Rattle.lq_base.specs.declared.run.Why.{Why}
-use Rattle.lq_hand.specs.Enters.{Enters}
-use Rattle.lq_hand.specs.Way.{IsUnderWay, Way}
+use Rattle.lq_hand.specs.Way.{Enters, IsUnderWay, Way}
 use Rattle.lq_hand.specs.declared.source.Entered.{Entered}
 use Rattle.lq_hand.specs.declared.source.Entered.TheVariants as entered
 use Rattle.lq_model.specs.Catalogue.{Catalogue}
 use Rattle.lq_run.specs.Commands.{HasDatabase, LeavesAll, LeavesAs, SomeMayRun, TellsAll}
 use Rattle.lq_run.specs.Crashes.{BehindAll, CrashesAll, LeftBehind}
 use Rattle.lq_run.specs.Left.{LeftAll, LeftAs}
-use Rattle.lq_run.specs.Steps.{TellsAs, no_turn, standing}
-use Rattle.lq_run.specs.UnderWay.{TellsTo}
+use Rattle.lq_run.specs.Steps.{TellsAs, no_turn, standing, TellsTo}
 use Rattle.lq_run.specs.declared.runner.End.{End}
 use Rattle.lq_run.specs.declared.runner.End.TheVariants as end
 use Rattle.lq_run.specs.declared.runner.Runner.{Runner}
-use Rattle.lq_back.specs.RowTurns.{StopsAt, row_way}
+use Rattle.lq_back.specs.Reversal.{StopsAt, row_way}
 use Rattle.lq_sets.specs.SetTurns.{YieldsTo, set_way}
-use Rattle.lq_seen.specs.Printing.{Account}
-use Rattle.lq_seen.specs.Telling.{Tells}
+use Rattle.lq_seen.specs.Telling.{Account, Tells}
 use Rattle.lq_seen.specs.declared.outcome.Halt.{Halt}
 use Rattle.lq_seen.specs.declared.outcome.Outcome.{Outcome}
 use Rattle.lq_back.specs.declared.row_turns.RowTurns.{RowTurns}
 use Rattle.lq_sets.specs.declared.set_turns.SetTurns.{SetTurns}
-use Rattle.lq_store.specs.Crashes.{Crashes}
-use Rattle.lq_store.specs.State.{State}
+use Rattle.lq_store.specs.Journal.{Crashes, State}
 use Rattle.lq_track.specs.Database.{Database}
-use Rattle.lq_turns.specs.Contents.{Contents}
-use Rattle.lq_turns.specs.Effects.{not_fresh}
+use Rattle.lq_turns.specs.Deed.{Contents}
+use Rattle.lq_turns.specs.Set.{not_fresh, Meaning, Set}
 use Rattle.lq_turns.specs.Rest.{Turns}
-use Rattle.lq_turns.specs.Rollback.{all_rolled, rolled_as}
-use Rattle.lq_turns.specs.Set.{Meaning, Set}
+use Rattle.lq_turns.specs.Script.{all_rolled, rolled_as}
 use Rattle.lq_turns.specs.Settle.{Settled, all_settled, choice, did_of, followed, mark_turn, run_ending, run_turn, settle, settled_as, settled_by}
 use Rattle.lq_turns.specs.Stops.{is_mark}
 use Rattle.lq_turns.specs.Turn.{Ending, Finished, Refused as Rejected, ending}
@@ -48,10 +43,8 @@ use Rattle.lq_turns.specs.declared.stop.Stop.TheVariants.{Halted, Refused}
 use Rattle.lq_turns.specs.declared.turn.Turn.{Turn}
 use Rattle.lq_commands.proofs.Endings.{full_as}
 use Rattle.lq_commands.proofs.Starts.{AllOn, name_so, new_holds, new_may_run, new_tells}
-use Rattle.lq_commands.specs.Stopping.{NamesStop, YieldedAt, stopping_way}
-use Rattle.lq_commands.specs.Tells.{HasTold}
-use Rattle.lq_commands.specs.Turns.{MayTurn, turns_script}
-use Rattle.lq_commands.specs.Works.{CrashesIn, FullAs}
+use Rattle.lq_commands.specs.Scripts.{NamesStop, YieldedAt, stopping_way, MayTurn, turns_script}
+use Rattle.lq_commands.specs.Works.{HasTold, CrashesIn, FullAs}
 use Rattle.lq_commands.specs.declared.stopping.Stopping.{Stopping}
 
 -- the next turn is entered as the source enters it

@@ -5,16 +5,15 @@ use Rattle.lq_base.specs.declared.command.Command.{Command}
 use Rattle.lq_base.specs.declared.dialect.Dialect.{Dialect}
 use Rattle.lq_cli.specs.declared.line.Job.{Job}
 use Rattle.lq_cli.specs.declared.line.Job.TheVariants.{Run}
-use Rattle.lq_seen.specs.Printing.{Account}
-use Rattle.lq_store.specs.State.{State}
+use Rattle.lq_seen.specs.Telling.{Account}
+use Rattle.lq_store.specs.Journal.{State}
 use Rattle.lq_tell.specs.declared.done.Done.{Done}
 use Rattle.lq_tell.specs.declared.status.Status.{Status}
 use Rattle.lq_tell.specs.declared.status.Status.TheVariants as status
 use Rattle.lq_track.specs.Database.{Database}
 use Rattle.lq_commands.proofs.Warned.{none_up_to, quiet_lines, quiet_up_to}
 use Rattle.lq_commands.specs.Outputs.{EndsText, TellsJob, TellsText}
-use Rattle.lq_commands.specs.Tells.{EndsRollback, EndsUpdate, IsQuiet}
-use Rattle.lq_commands.specs.Works.{OnIts, is_finished}
+use Rattle.lq_commands.specs.Works.{EndsRollback, EndsUpdate, IsQuiet, OnIts, is_finished}
 use Rattle.lq_commands.specs.declared.given.Given.{Given}
 
 not_true : false ≡ true → ⊥

@@ -13,36 +13,34 @@ use Rattle.lq_base.specs.declared.run.Why.{Why}
 use Rattle.lq_base.specs.declared.tracking.Tracked.{Tracked}
 use Rattle.lq_beside.proofs.TablesRead.{not_is}
 use Rattle.lq_beside.specs.Replays.{calls_fit}
-use Rattle.lq_changelog.specs.ShortTexts.{HasShortTexts}
-use Rattle.lq_kinds.specs.Dialects.{AreFor}
+use Rattle.lq_changelog.specs.Gathers.{HasShortTexts}
+use Rattle.lq_kinds.specs.AnyChange.{AreFor}
 use Rattle.lq_kinds.specs.declared.any_change.AnyChange.{AnyChange}
 use Rattle.lq_model.proofs.Lists.{and_left}
 use Rattle.lq_model.specs.declared.statement.Statement.{Statement}
-use Rattle.lq_plan.specs.Work.{work_from}
+use Rattle.lq_plan.specs.Told.{work_from}
 use Rattle.lq_plan.specs.declared.turns.Item.{Item}
 use Rattle.lq_run.specs.Commands.{HasDatabase, LeavesAs}
 use Rattle.lq_run.specs.Crashes.{LeftBehind}
 use Rattle.lq_hand.specs.Way.{IsUnderWay}
-use Rattle.lq_run.specs.UnderWay.{TellsTo}
+use Rattle.lq_run.specs.Steps.{TellsTo}
 use Rattle.lq_turns.specs.declared.stop.Refusal.{Refusal}
 use Rattle.lq_run.specs.declared.runner.End.{End}
 use Rattle.lq_run.specs.declared.runner.End.TheVariants as end
 use Rattle.lq_sets.specs.SetTurns.{Knows, YieldsAs, set_way, sets_left}
 use Rattle.lq_seen.proofs.Shown.{none_shown}
-use Rattle.lq_seen.specs.Printing.{Account, of_sets, shown}
-use Rattle.lq_seen.specs.Telling.{WarnsFirst, bounded}
+use Rattle.lq_seen.specs.Telling.{Account, of_sets, shown, WarnsFirst, bounded}
 use Rattle.lq_seen.specs.View.{any_meaning}
 use Rattle.lq_seen.specs.declared.outcome.Outcome.{Outcome}
 use Rattle.lq_sets.specs.declared.set_turns.SetTurns.{SetTurns}
-use Rattle.lq_store.specs.Crashes.{Crashes}
-use Rattle.lq_store.specs.State.{State}
+use Rattle.lq_store.specs.Journal.{Crashes, State}
 use Rattle.lq_tell.specs.Lines.{own_line, warning_line, warning_lines}
 use Rattle.lq_tell.specs.declared.done.Done.{Done}
 use Rattle.lq_tell.specs.declared.status.Status.{Status}
 use Rattle.lq_tell.specs.declared.status.Status.TheVariants as status
 use Rattle.lq_tell.specs.Texts.{has_output}
 use Rattle.lq_track.specs.Database.{Database, has_twin_rows}
-use Rattle.lq_turns.specs.Contents.{Contents, contents_of}
+use Rattle.lq_turns.specs.Deed.{Contents, contents_of}
 use Rattle.lq_turns.specs.Printed.{printed as statements_run, printed_of}
 use Rattle.lq_turns.specs.Rest.{OfSets}
 use Rattle.lq_turns.specs.Script.{has_work}
@@ -60,10 +58,8 @@ use Rattle.lq_commands.proofs.LoadedTexts.{view_has}
 use Rattle.lq_commands.proofs.Planned.{no_sets, no_work, passed_script, sets_are, update_may}
 use Rattle.lq_commands.proofs.Warned.{all_up_to, quiet_lines, quiet_up_to}
 use Rattle.lq_commands.specs.Refusals.{Answers, IsFault, Passes, ends, if_halts, if_warns, own_halt, refusal, unready}
-use Rattle.lq_commands.specs.Scripts.{log_in, nothing_told, sets_in, sets_script, settled_in, update_script}
-use Rattle.lq_commands.specs.Tells.{EndsUpdate, HasTold, TellsUpdate, WarnsUpTo, status_by, stop_by, update_output}
-use Rattle.lq_commands.specs.Turns.{MayTurn, turns_script}
-use Rattle.lq_commands.specs.Works.{CrashesIn, FullAs, IsReady, OnIts, TellsFull, Works, is_finished, is_whole}
+use Rattle.lq_commands.specs.Scripts.{log_in, nothing_told, sets_in, sets_script, settled_in, update_script, MayTurn, turns_script}
+use Rattle.lq_commands.specs.Works.{EndsUpdate, HasTold, TellsUpdate, WarnsUpTo, status_by, stop_by, update_output, CrashesIn, FullAs, IsReady, OnIts, TellsFull, Works, is_finished, is_whole}
 use Rattle.lq_commands.specs.declared.given.Given.{Given}
 
 not_true : false ≡ true → ⊥

@@ -4,12 +4,10 @@ use Rattle.std.specs.List.{list_all}
 use Rattle.std.specs.Prelude.{List, [], true, ◌∷◌, ◌≡◌}
 use Rattle.lq_base.specs.declared.dialect.Dialect.{Dialect}
 use Rattle.lq_expr.specs.declared.options.Options.{Options}
-use Rattle.lq_kinds.specs.AnyChange.{is_for}
-use Rattle.lq_kinds.specs.Dialects.{is_read_for}
+use Rattle.lq_kinds.specs.AnyChange.{is_for, is_read_for}
 use Rattle.lq_kinds.specs.declared.change_set.ChangeSet.{ChangeSet}
 use Rattle.lq_model.proofs.Lists.{and_left, and_right, and_true}
-use Rattle.lq_seen.specs.Laws.{ViewsAreRead}
-use Rattle.lq_seen.specs.View.{any_meaning, views}
+use Rattle.lq_seen.specs.View.{ViewsAreRead, any_meaning, views}
 use Rattle.lq_turns.specs.Laws.{AreRead}
 
 sets_are_read : (d : Dialect) (o : Options) (xs : List ChangeSet) → list_all (is_read_for d) xs ≡ true → AreRead d any_meaning (views o xs)

@@ -8,15 +8,15 @@ use Rattle.lq_base.specs.declared.dialect.Dialect.{Dialect}
 use Rattle.lq_base.specs.declared.identity.Identity.{Identity}
 use Rattle.lq_base.specs.declared.run.Why.{Why}
 use Rattle.lq_run.specs.Commands.{HasDatabase}
-use Rattle.lq_seen.specs.Printing.{Account, of_turns}
+use Rattle.lq_seen.specs.Telling.{Account, of_turns}
 use Rattle.lq_seen.specs.View.{any_meaning}
-use Rattle.lq_store.specs.State.{State}
+use Rattle.lq_store.specs.Journal.{State}
 use Rattle.lq_tell.specs.Lines.{warning_line, warning_lines}
 use Rattle.lq_tell.specs.declared.done.Done.{Done}
 use Rattle.lq_tell.specs.declared.status.Status.{Status}
 use Rattle.lq_track.specs.Database.{Database}
-use Rattle.lq_turns.specs.Contents.{Contents, contents_of}
-use Rattle.lq_turns.specs.Rollback.{all_rolled, rolled_as, rows_kept, rows_undone, undo_turns}
+use Rattle.lq_turns.specs.Deed.{Contents, contents_of}
+use Rattle.lq_turns.specs.Script.{all_rolled, rolled_as, rows_kept, rows_undone, undo_turns}
 use Rattle.lq_turns.specs.Settle.{own_choice, unless_stopped}
 use Rattle.lq_turns.specs.Turn.{Ending, Finished, Refused, ending}
 use Rattle.lq_turns.specs.declared.choice.Choice.{Choice}
@@ -24,8 +24,7 @@ use Rattle.lq_turns.specs.declared.turn.Turn.{Turn}
 use Rattle.lq_commands.specs.Outputs.{back_in}
 use Rattle.lq_commands.specs.Refusals.{if_warns, own_warning}
 use Rattle.lq_commands.specs.Scripts.{log_in, nothing_told, rolled_to, sets_in}
-use Rattle.lq_commands.specs.Tells.{IsQuiet, WarnsUpTo}
-use Rattle.lq_commands.specs.Works.{OnIts}
+use Rattle.lq_commands.specs.Works.{IsQuiet, WarnsUpTo, OnIts}
 use Rattle.lq_commands.specs.declared.given.Given.{Given}
 
 -- without warnings there are no lines of them

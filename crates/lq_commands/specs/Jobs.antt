@@ -3,22 +3,20 @@ use Rattle.std.specs.Prelude.{Bool, List, None, Option, Result, Some, [], false,
 use Rattle.lq_base.specs.declared.command.Command.{Command}
 use Rattle.lq_base.specs.declared.command.Command.TheVariants as command
 use Rattle.lq_cli.specs.declared.line.Job.{Job}
-use Rattle.lq_cli.specs.declared.line.Job.TheVariants.{Generate, History, RollbackSql, Run, UpdateCount, UpdateSql, UpdateTestingRollback, UpdateTo, ClearSums}
-use Rattle.lq_store.specs.Crashes.{Crashes}
-use Rattle.lq_store.specs.State.{State}
-use Rattle.lq_tell.specs.declared.done.Done.{Done}
-use Rattle.lq_tell.specs.declared.status.Status.{Status}
-use Rattle.lq_track.specs.Database.{Database}
-use Rattle.lq_turns.specs.Script.{clear_calls}
-use Rattle.lq_turns.specs.declared.call.Call.{Call}
-use Rattle.lq_commands.specs.Generates.{generate_refusal}
+use Rattle.lq_cli.specs.declared.line.Job.TheVariants.{ClearSums, Generate, History, RollbackSql, Run, UpdateCount, UpdateSql, UpdateTestingRollback, UpdateTo}
 use Rattle.lq_commands.specs.Outputs.{TellsJob}
-use Rattle.lq_commands.specs.Parts.{counted_in}
 use Rattle.lq_commands.specs.Refusals.{Answers, held, print_rollback, print_update, refusal}
-use Rattle.lq_commands.specs.Rehearsal.{rehearsal_refusal, rehearsal_script}
+use Rattle.lq_commands.specs.Rehearsal.{counted_in, generate_refusal, rehearsal_refusal, rehearsal_script}
 use Rattle.lq_commands.specs.Scripts.{script, tag_in}
 use Rattle.lq_commands.specs.Works.{CrashesIn, IsKept, OnIts, Works, only_reads}
 use Rattle.lq_commands.specs.declared.given.Given.{Given}
+use Rattle.lq_store.specs.Journal.{Crashes, State}
+use Rattle.lq_tell.specs.declared.done.Done.{Done}
+use Rattle.lq_tell.specs.declared.status.Status.{Status}
+use Rattle.lq_tell.specs.declared.status.Status.TheVariants as status
+use Rattle.lq_track.specs.Database.{Database}
+use Rattle.lq_turns.specs.Script.{clear_calls}
+use Rattle.lq_turns.specs.declared.call.Call.{Call}
 
 -- it works on the database itself: what is printed runs on a copy, and a drill and a soak are no such jobs
 abbrev pub is_own : Job → Bool
@@ -98,3 +96,19 @@ module _ {S : Type 0} (state : S → State) (crashes : S → Crashes) where
     pub works : OnIts given.options.dialect (state before) (λ database. Works given.options.dialect (job_script job given database) database (state before) done (state after))
     pub any_moment : OnIts given.options.dialect (state before) (λ database. CrashesIn given.options.dialect (job_script job given database) database (state before) (crashes before) (crashes after))
     pub tells : OnIts given.options.dialect (state before) (λ database. TellsJob job given database done)
+
+-- Which statuses come of a database.
+
+-- not of the words, of the files or of the output
+abbrev pub is_of_database : Status → Bool
+is_of_database status.Usage = false
+is_of_database status.ReadFault = false
+is_of_database (status.Changelog fault) = false
+is_of_database status.WriteFault = false
+is_of_database s = true
+
+-- nor of a disk: a database in memory has none
+abbrev pub is_diskless : Status → Bool
+is_diskless status.DiskFault = false
+is_diskless (status.Damaged at) = false
+is_diskless s = is_of_database s

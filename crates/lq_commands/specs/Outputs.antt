@@ -1,28 +1,25 @@
 -- What a job tells that came to its end: its status and its output.
-use Rattle.std.specs.Prelude.{Bool, IfOk, List, Result, Some, [], false, if◌then◌else◌, length, true, ℕ, codes, ◌++◌, ◌≡◌}
+use Rattle.std.specs.Prelude.{Bool, IfOk, List, Result, Some, [], codes, false, if◌then◌else◌, length, true, ℕ, ◌++◌, ◌≡◌}
 use Rattle.lq_base.specs.declared.command.Command.{Command}
 use Rattle.lq_base.specs.declared.command.Command.TheVariants as command
 use Rattle.lq_base.specs.declared.command.Target.{Target}
 use Rattle.lq_base.specs.declared.tracking.Lock.{Lock}
 use Rattle.lq_cli.specs.declared.line.Job.{Job}
-use Rattle.lq_cli.specs.declared.line.Job.TheVariants.{Generate, History, RollbackSql, Run, UpdateCount, UpdateSql, UpdateTestingRollback, UpdateTo, ClearSums}
-use Rattle.lq_report.specs.Output.{history_text, status_text, tagged_text, unrecorded_line, validated_text, cleared_text}
-use Rattle.lq_words.specs.Words.{held_text}
-use Rattle.lq_seen.specs.Printing.{Account}
+use Rattle.lq_cli.specs.declared.line.Job.TheVariants.{ClearSums, Generate, History, RollbackSql, Run, UpdateCount, UpdateSql, UpdateTestingRollback, UpdateTo}
+use Rattle.lq_commands.specs.Rehearsal.{EndsRun, counted_in, generate_text, rehearsed}
+use Rattle.lq_commands.specs.Scripts.{rolled_to, sets_in, updated_in}
+use Rattle.lq_commands.specs.Works.{EndsRollback, EndsSync, EndsUpdate, IfFinished, WarnsUpTo, synced_in}
+use Rattle.lq_commands.specs.declared.given.Given.{Given}
+use Rattle.lq_report.specs.Output.{cleared_text, history_text, status_text, tagged_text, unrecorded_line, validated_text}
+use Rattle.lq_seen.specs.Telling.{Account}
 use Rattle.lq_tell.specs.Lines.{warning_lines}
 use Rattle.lq_tell.specs.declared.done.Done.{Done}
 use Rattle.lq_tell.specs.declared.status.Status.{Status}
 use Rattle.lq_tell.specs.declared.status.Status.TheVariants as status
 use Rattle.lq_track.specs.Database.{Database}
-use Rattle.lq_turns.specs.Pending.{pending}
-use Rattle.lq_turns.specs.Rollback.{rows_kept}
-use Rattle.lq_commands.specs.Generates.{generate_text}
-use Rattle.lq_commands.specs.Inserts.{EndsSync, synced_in}
-use Rattle.lq_commands.specs.Parts.{counted_in}
-use Rattle.lq_commands.specs.Rehearsal.{EndsRun, rehearsed}
-use Rattle.lq_commands.specs.Scripts.{rolled_to, sets_in, updated_in}
-use Rattle.lq_commands.specs.Tells.{EndsRollback, EndsUpdate, IfFinished, WarnsUpTo}
-use Rattle.lq_commands.specs.declared.given.Given.{Given}
+use Rattle.lq_turns.specs.Printed.{pending}
+use Rattle.lq_turns.specs.Script.{rows_kept}
+use Rattle.lq_words.specs.Words.{held_text}
 
 -- what a rollback to a target does, and what is printed of it
 abbrev pub back_in : Bool → Given → Target → Database → Account

@@ -7,6 +7,8 @@ use Rattle.lq_base.specs.declared.command.Target.{Target}
 use Rattle.lq_base.specs.declared.identity.Identity.{Identity}
 use Rattle.lq_base.specs.declared.run.Why.{Why}
 use Rattle.lq_base.specs.declared.tracking.Tracked.{Tracked}
+use Rattle.lq_commands.specs.Scripts.{log_in, sets_in}
+use Rattle.lq_commands.specs.declared.given.Given.{Given}
 use Rattle.lq_model.specs.declared.fault.StoreFault.{StoreFault}
 use Rattle.lq_model.specs.declared.fault.StoreFault.TheVariants as fault
 use Rattle.lq_seen.specs.View.{any_meaning}
@@ -14,15 +16,13 @@ use Rattle.lq_tell.specs.declared.done.Done.{Done}
 use Rattle.lq_tell.specs.declared.status.Status.{Status}
 use Rattle.lq_tell.specs.declared.status.Status.TheVariants as status
 use Rattle.lq_track.specs.Database.{Database}
-use Rattle.lq_turns.specs.Contents.{contents_of}
+use Rattle.lq_turns.specs.Deed.{contents_of}
 use Rattle.lq_turns.specs.Faults.{faults}
-use Rattle.lq_turns.specs.Rollback.{not_reversible, rows_kept, rows_undone}
+use Rattle.lq_turns.specs.Script.{not_reversible, rows_kept, rows_undone}
 use Rattle.lq_turns.specs.Settle.{own_choice}
 use Rattle.lq_turns.specs.declared.choice.Choice.{Choice}
 use Rattle.lq_turns.specs.declared.choice.Choice.TheVariants.{Halts, Runs}
 use Rattle.lq_turns.specs.declared.fault.Fault.{Fault}
-use Rattle.lq_commands.specs.Scripts.{log_in, sets_in}
-use Rattle.lq_commands.specs.declared.given.Given.{Given}
 
 -- the lock is held
 abbrev pub held : Database → Option Status

@@ -1,6 +1,6 @@
--- A rehearsal: an update, the rollback of the rows that came, and the update again, each on the database that the one before left, up to the first that stops.
+-- A changelog that makes the users' objects: its text, and what stands in its way.
 use Rattle.std.specs.List.{flat_map}
-use Rattle.std.specs.Option.{option_or}
+use Rattle.std.specs.Option.{option_map, option_or}
 use Rattle.std.specs.Prelude.{List, None, Option, Some, false, length, ℕ, ◌++◌, ◌-◌, ◌≡◌}
 use Rattle.lq_base.specs.declared.command.Target.TheVariants.{Count}
 use Rattle.lq_base.specs.declared.dialect.Dialect.{Dialect}
@@ -8,20 +8,47 @@ use Rattle.lq_base.specs.declared.identity.Identity.{Identity}
 use Rattle.lq_base.specs.declared.run.Why.{Why}
 use Rattle.lq_base.specs.declared.tracking.Tracked.{Tracked}
 use Rattle.lq_bound.specs.Bound.{first_bound}
-use Rattle.lq_seen.specs.Printing.{Account}
+use Rattle.lq_cli.specs.declared.line.Job.{Job}
+use Rattle.lq_cli.specs.declared.line.Job.TheVariants.{UpdateTo}
+use Rattle.lq_commands.specs.Refusals.{if_not, own_halt, unready}
+use Rattle.lq_commands.specs.Scripts.{rollback_script, rolled_to, sets_in, sets_script, settled_in, update_script, updated_in}
+use Rattle.lq_commands.specs.Works.{IfFinished, WarnsUpTo, rollback_told, status_by, update_told}
+use Rattle.lq_commands.specs.declared.given.Given.{Given}
+use Rattle.lq_generate.specs.Faults.{fault_at}
+use Rattle.lq_generate.specs.Generated.{generated_text}
+use Rattle.lq_kinds.specs.declared.change_set.Changelog.{Changelog}
+use Rattle.lq_portion.specs.Portion.{counted, up_to_tag}
+use Rattle.lq_seen.specs.Telling.{Account}
 use Rattle.lq_tell.specs.Lines.{warning_line, warning_lines}
 use Rattle.lq_tell.specs.declared.done.Done.{Done}
 use Rattle.lq_tell.specs.declared.status.Status.{Status}
+use Rattle.lq_tell.specs.declared.status.Status.TheVariants.{NotWritable}
 use Rattle.lq_track.specs.Database.{Database}
-use Rattle.lq_turns.specs.Rollback.{rows_kept}
-use Rattle.lq_turns.specs.Script.{calls_unless}
+use Rattle.lq_turns.specs.Script.{calls_unless, rows_kept}
 use Rattle.lq_turns.specs.Session.{left_by}
 use Rattle.lq_turns.specs.declared.call.Call.{Call}
 use Rattle.lq_turns.specs.declared.stop.Stop.{Stop}
-use Rattle.lq_commands.specs.Refusals.{if_not, own_halt, unready}
-use Rattle.lq_commands.specs.Scripts.{rollback_script, rolled_to, sets_in, sets_script, settled_in, update_script, updated_in}
-use Rattle.lq_commands.specs.Tells.{IfFinished, WarnsUpTo, rollback_told, status_by, update_told}
-use Rattle.lq_commands.specs.declared.given.Given.{Given}
+
+-- the first of the users' objects that a changelog cannot say, or its size; no lock is looked at
+abbrev pub generate_refusal : List ℕ → Given → Database → Option Status
+generate_refusal author given database = option_map NotWritable (fault_at given.options.dialect author database.users)
+
+-- by this author, the changelog of the users' objects
+abbrev pub generate_text : List ℕ → Given → Database → List ℕ
+generate_text author given database = generated_text given.options.dialect author database.users
+
+-- The part of a changelog that a job runs.
+
+-- of the changelog that its files give, where there is one: an update up to a tag that no changeset sets has none
+abbrev pub part_for : Job → Changelog → Option Changelog
+part_for (UpdateTo tag) g = up_to_tag tag g
+part_for _ g = Some g
+
+-- what an update of so many works with on these rows
+abbrev pub counted_in : ℕ → Given → List Tracked → Given
+counted_in count given rows = record given { changelog = counted count given.options given.changelog rows }
+
+-- A rehearsal: an update, the rollback of the rows that came, and the update again, each on the database that the one before left, up to the first that stops.
 
 -- What is told of runs: what stopped the last of them, their texts, and their warnings.
 pub record Told : Type 0 where

@@ -6,8 +6,7 @@ ghost use Rattle.lq_commands.specs.Works.{IsReady, OnIts};
 ghost use Rattle.lq_tell.specs.declared.status.Status.TheVariants.{NoTarget};
 ghost use Rattle.lq_track.specs.Log.{identity_of};
 ghost use Rattle.lq_turns.specs.Faults.{faults};
-ghost use Rattle.lq_turns.specs.Rollback.{rows_kept, rows_undone};
-ghost use Rattle.lq_turns.specs.Script.{last_row};
+ghost use Rattle.lq_turns.specs.Script.{rows_kept, rows_undone, last_row};
 
 use crate::given::{Given, SESSION};
 use lq_back::{ReverseFault, TakenBack, reversible, rows_to_undo};

@@ -1,6 +1,6 @@
 ghost use Rattle.std.specs.Prelude.{◌≡◌, ◌≤◌, Err, IfErr, IfOk, None, OnOk, length};
-ghost use Rattle.lq_model.specs.Names.{is_empty};
-ghost use Rattle.lq_outside.specs.Count.{Rose};
+ghost use Rattle.lq_model.specs.Catalogue.{is_empty};
+ghost use Rattle.lq_outside.specs.Forms.{Rose};
 ghost use Rattle.lq_report.specs.Output.{cleared_text};
 ghost use Rattle.lq_run.specs.Commands.{Leaves};
 ghost use Rattle.lq_run.specs.Crashes.{LeftBehind};

@@ -1,17 +1,16 @@
 ghost use Rattle.std.specs.List.{All};
 ghost use Rattle.std.specs.Prelude.{◌≡◌, ◌≤◌, Err, IfOk, IfSome, None, false, true};
-ghost use Rattle.lq_base.specs.Character.{char_count};
-ghost use Rattle.lq_changelog.specs.ShortTexts.{HasShortTexts};
+ghost use Rattle.lq_base.specs.Number.{char_count};
+ghost use Rattle.lq_changelog.specs.Gathers.{HasShortTexts};
 ghost use Rattle.lq_base.specs.declared.command.Command.TheVariants as command;
 ghost use Rattle.lq_cli.specs.declared.line.Job.TheVariants as job;
-ghost use Rattle.lq_kinds.specs.Dialects.{AreFor};
-ghost use Rattle.lq_outside.specs.Count.{Rose};
+ghost use Rattle.lq_kinds.specs.AnyChange.{AreFor};
+ghost use Rattle.lq_outside.specs.Forms.{Rose};
 ghost use Rattle.lq_tell.specs.declared.status.Status.TheVariants.{DiskFault};
-ghost use Rattle.lq_commands.specs.AtOnce.{is_at_once};
+ghost use Rattle.lq_commands.specs.Scripts.{is_at_once, printed_script, script, tag_in};
 ghost use Rattle.lq_commands.specs.Jobs.{DidJob, is_single, job_tag};
 ghost use Rattle.lq_commands.specs.Outputs.{TellsJob};
 ghost use Rattle.lq_commands.specs.Refusals.{Answers, Passes, no_way_back, print_rollback, print_update, refusal};
-ghost use Rattle.lq_commands.specs.Scripts.{printed_script, script, tag_in};
 ghost use Rattle.lq_turns.specs.Stops.{is_mark};
 ghost use Rattle.lq_commands.specs.Works.{CrashesIn, IsKept, IsReady, OnIts, TellsRoom, Works, only_reads};
 

@@ -1,7 +1,6 @@
 ghost use Rattle.std.specs.Prelude.{◌≡◌, ◌≤◌, IfErr, IfOk, false};
 ghost use Rattle.lq_tell.specs.declared.status.Status.TheVariants.{OutOfMemory};
-ghost use Rattle.lq_commands.specs.Reading.{ReadOnce};
-ghost use Rattle.lq_commands.specs.Stamp.{stamp_of};
+ghost use Rattle.lq_commands.specs.Stamp.{ReadOnce, stamp_of};
 ghost use Rattle.lq_turns.specs.Stops.{is_mark};
 
 use crate::stamp::stamp_of;

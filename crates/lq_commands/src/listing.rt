@@ -4,9 +4,8 @@ ghost use Rattle.lq_tell.specs.declared.status.Status.TheVariants.{DiskFault, Do
 ghost use Rattle.lq_commands.specs.Outputs.{TellsText};
 ghost use Rattle.lq_commands.specs.Refusals.{Answers, invalid};
 ghost use Rattle.lq_commands.specs.Scripts.{sets_in};
-ghost use Rattle.lq_commands.specs.Tells.{IsQuiet};
-ghost use Rattle.lq_commands.specs.Works.{IsReady, OnIts, Works};
-ghost use Rattle.lq_turns.specs.Pending.{pending};
+ghost use Rattle.lq_commands.specs.Works.{IsQuiet, IsReady, OnIts, Works};
+ghost use Rattle.lq_turns.specs.Printed.{pending};
 
 use crate::checks::{rows_in, valid_rows};
 use crate::given::Given;

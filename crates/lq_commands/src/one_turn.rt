@@ -10,8 +10,8 @@ pub struct OneTurn;
 
 impl Source for OneTurn {
     ghost use Rattle.std.specs.Prelude.{Option};
-    ghost use Rattle.lq_run.specs.NoChanges.{no_changes};
-    ghost use Rattle.lq_commands.specs.Stopping.{one_way};
+    ghost use Rattle.lq_run.specs.Stands.{no_changes};
+    ghost use Rattle.lq_commands.specs.Scripts.{one_way};
     ghost use Rattle.lq_turns.specs.Rest.{NoMore};
     ghost use Rattle.lq_turns.specs.declared.stop.Refusal.{Refusal};
 

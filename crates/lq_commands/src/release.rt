@@ -1,6 +1,6 @@
 ghost use Rattle.std.specs.Prelude.{◌≡◌, ◌≤◌, Err, IfErr, IfOk, OnOk};
 ghost use Rattle.lq_base.specs.declared.command.Command.TheVariants as command;
-ghost use Rattle.lq_outside.specs.Count.{Rose};
+ghost use Rattle.lq_outside.specs.Forms.{Rose};
 ghost use Rattle.lq_run.specs.Commands.{Leaves};
 ghost use Rattle.lq_run.specs.Crashes.{LeftBehind};
 ghost use Rattle.lq_store.specs.Calls.{CountsDisk};

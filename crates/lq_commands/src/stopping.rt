@@ -12,7 +12,7 @@ pub struct Stopping<T: Source + Drop> {
 }
 
 impl<T: Source + Drop> Source for Stopping<T> {
-    ghost use Rattle.lq_commands.specs.Stopping.{stopping_way};
+    ghost use Rattle.lq_commands.specs.Scripts.{stopping_way};
 
     ghost Key = { T.Key };
 

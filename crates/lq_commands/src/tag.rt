@@ -1,7 +1,7 @@
 ghost use Rattle.std.specs.Prelude.{◌≡◌, ◌≤◌, Err, IfOk, None, Some, option_map};
-ghost use Rattle.lq_base.specs.Character.{char_count};
+ghost use Rattle.lq_base.specs.Number.{char_count};
 ghost use Rattle.lq_base.specs.declared.command.Command.TheVariants as command;
-ghost use Rattle.lq_outside.specs.Count.{Rose};
+ghost use Rattle.lq_outside.specs.Forms.{Rose};
 ghost use Rattle.lq_report.specs.Output.{tagged_text};
 ghost use Rattle.lq_tell.specs.declared.status.Status.TheVariants.{DiskFault};
 ghost use Rattle.lq_commands.specs.Outputs.{EndsText};

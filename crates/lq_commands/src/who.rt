@@ -1,5 +1,5 @@
 ghost use Rattle.std.specs.Prelude.{◌≡◌, IfOk, string_bytes};
-ghost use Rattle.lq_commands.specs.Who.{clean, kept};
+ghost use Rattle.lq_commands.specs.Stamp.{clean, kept};
 
 use lq_base::{NoMemory, Text};
 use lq_words::shown;

@@ -5,7 +5,7 @@ use Rattle.lq_base.specs.declared.dialect.Dialect.TheVariants.{Mysql, Postgresql
 use Rattle.lq_base.specs.declared.reason.Reason.{Reason}
 use Rattle.lq_base.specs.declared.reason.Reason.TheVariants.{Missing}
 use Rattle.lq_model.specs.Catalogue.{Catalogue, no_objects, no_table}
-use Rattle.lq_cond.specs.Dialects.{is_meant}
+use Rattle.lq_cond.specs.Kinds.{is_meant}
 use Rattle.lq_cond.specs.Told.{tells as tells_one, told}
 use Rattle.lq_cond.proofs.ToldLemmas.{and_told, is_told, not_told, or_told}
 use Rattle.lq_cond.specs.declared.cond.Cond.{And, Cond, Is, Not, Or}

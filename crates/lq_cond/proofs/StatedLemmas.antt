@@ -4,7 +4,7 @@ use Rattle.std.proofs.lemmas.List.{drop_more}
 use Rattle.std.specs.List.{flat_map}
 use Rattle.std.specs.Prelude.{Err, List, Ok, [], ℕ, ◌++◌, ◌∷◌, ◌≡◌}
 use Rattle.lq_base.specs.declared.fault.KindFault.{KindFault}
-use Rattle.lq_tree.specs.Found.{Found, Taken, and_then, map_found, within}
+use Rattle.lq_tree.specs.Look.{Found, Taken, and_then, map_found, within}
 use Rattle.lq_tree.specs.Items.{item_path}
 use Rattle.lq_tree.specs.declared.node.Node.{Node}
 use Rattle.lq_cond.specs.Reading.{an_item, conds_of, each_item}

@@ -5,8 +5,8 @@ use Rattle.std.specs.Char.{to_ascii_lowercase}
 use Rattle.std.specs.Str.{bytes_eq, str_to_ascii_lowercase}
 use Rattle.lq_base.specs.Name.{is_named}
 use Rattle.lq_base.specs.declared.name.Name.{Name}
-use Rattle.lq_model.specs.Reserved.{is_tracking, lower}
-use Rattle.lq_cond.specs.Tracking.{is_tracking_key}
+use Rattle.lq_model.specs.NameSpaces.{is_tracking, lower}
+use Rattle.lq_cond.specs.Kinds.{is_tracking_key}
 use Rattle.lq_model.proofs.Lists.{named_itself, same_name, true_false, whether}
 
 lower_same : (b : ℕ) → to_ascii_lowercase b ≡ lower b

@@ -1,19 +1,46 @@
--- The kinds of conditions by their names, and the keys of each.
+-- Lists of dialects' names.
+use Rattle.std.specs.List.{filter, list_all, list_any}
 use Rattle.std.specs.Map.{lookup}
-use Rattle.std.specs.Prelude.{Err, List, None, Option, Some, [], codes, ℕ, ◌∷◌}
-use Rattle.std.specs.Str.{bytes_eq}
+use Rattle.std.specs.Prelude.{Bool, Err, List, None, Option, Some, [], codes, false, map, not, ℕ, ◌&&◌, ◌++◌, ◌==◌, ◌||◌, ◌∷◌}
+use Rattle.std.specs.Str.{bytes_eq, str_eq_ignore_ascii_case}
+use Rattle.lq_base.specs.Name.{dialect_text}
 use Rattle.lq_base.specs.declared.dialect.Dialect.{Dialect}
 use Rattle.lq_base.specs.declared.fault.KindFault.TheVariants.{Unknown}
-use Rattle.lq_model.specs.SqlText.{query_in}
-use Rattle.lq_model.specs.declared.query.Query.{Query}
-use Rattle.lq_tree.specs.Found.{Taken, and_then, or_bad, within}
-use Rattle.lq_tree.specs.Given.{a_name, a_text, a_whole}
-use Rattle.lq_tree.specs.Keys.{Keys, fields, map_with, optional, place, required, ◌⊛◌}
-use Rattle.lq_cond.specs.Dialects.{names_in}
 use Rattle.lq_cond.specs.declared.condition.Condition.{Condition}
 use Rattle.lq_cond.specs.declared.condition.Condition.TheVariants as condition
 use Rattle.lq_cond.specs.declared.kinds.ConditionKind.{ConditionKind}
 use Rattle.lq_cond.specs.declared.kinds.ConditionKind.TheVariants.{ChangeSetExecuted, ColumnExists, Dbms, ForeignKeyConstraintExists, IndexExists, PrimaryKeyExists, RowCount, SequenceExists, SqlCheck, TableExists, TableIsEmpty, UniqueConstraintExists, ViewExists}
+use Rattle.lq_model.specs.SqlText.{query_in}
+use Rattle.lq_model.specs.declared.query.Query.{Query}
+use Rattle.lq_tree.specs.Given.{a_name, a_text, a_whole, comma_parts, without_blanks}
+use Rattle.lq_tree.specs.Items.{is_empty}
+use Rattle.lq_tree.specs.Keys.{Keys, fields, map_with, optional, place, required, ◌⊛◌}
+use Rattle.lq_tree.specs.Look.{Taken, and_then, or_bad, within}
+
+-- the parts without the blanks around them, those without a character left out
+abbrev pub names_of : List (List ℕ) → List (List ℕ)
+names_of parts = filter (λ name. not (is_empty name)) (map without_blanks parts)
+
+-- the names of a text with commas between
+abbrev pub names_in : List ℕ → List (List ℕ)
+names_in text = names_of (comma_parts text)
+
+-- a name with `!` in front
+abbrev pub is_excluding : List ℕ → Bool
+is_excluding [] = false
+is_excluding (b ∷ bs) = b == 33
+
+abbrev pub excludes : Dialect → List ℕ → Bool
+excludes d name = bytes_eq name (codes "!" ++ dialect_text d)
+
+abbrev pub includes : Dialect → List ℕ → Bool
+includes d name = bytes_eq name (dialect_text d) || bytes_eq name (codes "all")
+
+-- no name excludes the dialect and, unless all names exclude, one is the dialect's or `all`
+abbrev pub is_meant : Dialect → List (List ℕ) → Bool
+is_meant d names = not (list_any (excludes d) names) && (list_all is_excluding names || list_any (includes d) names)
+
+-- The kinds of conditions by their names, and the keys of each.
 
 abbrev pub kinds : List (List ℕ × ConditionKind)
 kinds =
@@ -100,3 +127,8 @@ a_condition d TableIsEmpty = table_is_empty
 -- the condition at a key, which is its kind's name
 abbrev pub condition_at : Dialect → List ℕ → Taken Condition
 condition_at d key n = elim (kind_named key) [ None ↦ Err (Unknown key) | Some kind ↦ within key (a_condition d kind n) ]
+
+-- A tracking table's name in any case, as texts are compared.
+
+abbrev pub is_tracking_key : List ℕ → Bool
+is_tracking_key key = str_eq_ignore_ascii_case key (codes "databasechangelog") || str_eq_ignore_ascii_case key (codes "databasechangeloglock")

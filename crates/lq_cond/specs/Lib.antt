@@ -1,7 +1,5 @@
-pub mod Dialects
 pub mod Kinds
-pub mod Printed
 pub mod Reading
 pub mod Stated
+pub mod Printed
 pub mod Told
-pub mod Tracking

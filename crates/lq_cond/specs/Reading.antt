@@ -2,16 +2,12 @@
 use Rattle.std.specs.List.{flat_map}
 use Rattle.std.specs.Map.{lookup}
 use Rattle.std.specs.Option.{option_and_then, unwrap_or}
-use Rattle.std.specs.Prelude.{Bool, Err, List, None, Ok, Option, Some, [], codes, if◌then◌else◌, suc, zero, ℕ, ◌+◌, ◌++◌, ◌||◌, ◌∷◌}
+use Rattle.std.specs.Prelude.{Bool, Err, List, None, Ok, Option, Some, [], codes, if◌then◌else◌, suc, zero, ℕ, ◌++◌, ◌+◌, ◌||◌, ◌∷◌}
 use Rattle.std.specs.Str.{bytes_eq}
 use Rattle.lq_base.specs.declared.dialect.Dialect.{Dialect}
 use Rattle.lq_base.specs.declared.fault.KindFault.TheVariants.{Bad}
 use Rattle.lq_base.specs.declared.run.OnFail.{OnFail}
 use Rattle.lq_base.specs.declared.run.OnFail.TheVariants.{Continue, Halt, MarkRan, Warn}
-use Rattle.lq_tree.specs.Found.{Found, Taken, and_then, map_found, or_bad, within, within_list}
-use Rattle.lq_tree.specs.Items.{item_path}
-use Rattle.lq_tree.specs.Look.{list_of, map_of, text_of}
-use Rattle.lq_tree.specs.declared.node.Node.{Node}
 use Rattle.lq_cond.specs.Kinds.{condition_at}
 use Rattle.lq_cond.specs.declared.cond.Cond.{And as AndCond, Cond, Is, Not as NotCond, Or as OrCond}
 use Rattle.lq_cond.specs.declared.cond.Reaction.{Reaction}
@@ -19,6 +15,9 @@ use Rattle.lq_cond.specs.declared.connective.Connective.{Connective}
 use Rattle.lq_cond.specs.declared.connective.Connective.TheVariants.{And, Not, Or}
 use Rattle.lq_cond.specs.declared.setting.Setting.{Setting}
 use Rattle.lq_cond.specs.declared.setting.Setting.TheVariants.{Condition, Message, OnError, OnFail as OnFailure}
+use Rattle.lq_tree.specs.Items.{item_path}
+use Rattle.lq_tree.specs.Look.{Found, Taken, and_then, list_of, map_found, map_of, or_bad, text_of, within, within_list}
+use Rattle.lq_tree.specs.declared.node.Node.{Node}
 
 -- ---- lists whose items are maps: each key of an item counts as an item
 

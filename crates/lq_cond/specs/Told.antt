@@ -1,30 +1,28 @@
 -- What a condition tells of a database, as the catalogue and the rows that track what ran: that it holds, that it does not, or the first error.
-use Rattle.std.specs.Ordering.{int_eq}
 use Rattle.std.specs.List.{list_any}
 use Rattle.std.specs.Option.{option_and_then}
+use Rattle.std.specs.Ordering.{int_eq}
 use Rattle.std.specs.Prelude.{Bool, Err, List, None, Ok, Option, Result, Some, [], if◌then◌else◌, is_some, length, not, pos, ℕ, ◌&&◌, ◌==◌, ◌∷◌}
-use Rattle.lq_base.specs.Name.{is_named}
-use Rattle.lq_base.specs.Options.{if_there}
-use Rattle.lq_base.specs.Text.{is_text}
+use Rattle.lq_base.specs.Name.{is_named, is_text}
+use Rattle.lq_base.specs.Number.{if_there}
 use Rattle.lq_base.specs.declared.dialect.Dialect.{Dialect}
 use Rattle.lq_base.specs.declared.name.Name.{Name}
 use Rattle.lq_base.specs.declared.reason.Reason.{Reason}
 use Rattle.lq_base.specs.declared.reason.Reason.TheVariants.{Missing, NotOne}
 use Rattle.lq_base.specs.declared.tracking.Tracked.{Tracked}
 use Rattle.lq_base.specs.declared.value.Value.{Value}
-use Rattle.lq_model.specs.Catalogue.{Catalogue, sequence_of, table_of, view_of}
-use Rattle.lq_model.specs.Look.{at_table, column_at, foreign_key_at, index_at, key_at, unique_at}
-use Rattle.lq_model.specs.Query.{answer}
-use Rattle.lq_model.specs.Reserved.{is_tracking}
-use Rattle.lq_model.specs.declared.caller.By.TheVariants.{User}
-use Rattle.lq_model.specs.declared.constraint.Key.{Key}
-use Rattle.lq_model.specs.declared.query.Answered.{Answered}
-use Rattle.lq_cond.specs.Dialects.{is_meant}
+use Rattle.lq_cond.specs.Kinds.{is_meant}
 use Rattle.lq_cond.specs.Printed.{is_printed}
 use Rattle.lq_cond.specs.declared.cond.Cond.{Cond, fold-Cond}
 use Rattle.lq_cond.specs.declared.cond.Cond.TheOpen.{Cond-F}
 use Rattle.lq_cond.specs.declared.condition.Condition.{Condition}
 use Rattle.lq_cond.specs.declared.condition.Condition.TheVariants.{ChangeSetExecuted, ColumnExists, Dbms, ForeignKeyConstraintExists, IndexExists, PrimaryKeyExists, RowCount, SequenceExists, SqlCheck, TableExists, TableIsEmpty, UniqueConstraintExists, ViewExists}
+use Rattle.lq_model.specs.Catalogue.{Catalogue, at_table, column_at, foreign_key_at, index_at, key_at, sequence_of, table_of, unique_at, view_of}
+use Rattle.lq_model.specs.NameSpaces.{is_tracking}
+use Rattle.lq_model.specs.Views.{answer}
+use Rattle.lq_model.specs.declared.caller.By.TheVariants.{User}
+use Rattle.lq_model.specs.declared.constraint.Key.{Key}
+use Rattle.lq_model.specs.declared.query.Answered.{Answered}
 use Rattle.lq_verdicts.specs.Verdict.{all_hold, each_told, map_told, one_holds}
 
 -- a user's table has something: the tracking tables have nothing

@@ -1,6 +1,6 @@
 ghost use Rattle.std.specs.List.{list_all, list_any};
 ghost use Rattle.std.specs.Prelude.{◌≡◌, IfOk, map};
-ghost use Rattle.lq_cond.specs.Dialects.{excludes, includes, is_excluding, is_meant, names_in, names_of};
+ghost use Rattle.lq_cond.specs.Kinds.{excludes, includes, is_excluding, is_meant, names_in, names_of};
 
 use lq_base::{Dialect, Items, NoMemory, Text};
 use lq_tree::{comma_parts, without_blanks};

@@ -1,5 +1,5 @@
 ghost use Rattle.std.specs.Prelude.{◌≡◌};
-ghost use Rattle.lq_tree.specs.Found.{Reads, within};
+ghost use Rattle.lq_tree.specs.Look.{Reads, within};
 ghost use Rattle.lq_cond.specs.Kinds.{a_condition, a_query, changeset_executed, column_exists, condition_at, dbms, foreign_key_exists, index_exists, kind_named, primary_key_exists, row_count, sequence_exists, sql_check, table_exists, table_is_empty, unique_exists, view_exists};
 
 use crate::condition::Condition;

@@ -1,6 +1,6 @@
 //! Lists of conditions, in which `and`, `or` and `not` hold lists again.
 ghost use Rattle.std.specs.Prelude.{[], ◌≡◌, IfOk};
-ghost use Rattle.lq_tree.specs.Found.{Reads, Tells, placed, within, within_list};
+ghost use Rattle.lq_tree.specs.Look.{Reads, Tells, placed, within, within_list};
 ghost use Rattle.lq_tree.specs.Items.{item_path};
 ghost use Rattle.lq_cond.specs.Reading.{an_item, cond_at, conditions, each_item, each_key, inner_conditions};
 

@@ -1,5 +1,5 @@
 ghost use Rattle.std.specs.Prelude.{[], ◌≡◌};
-ghost use Rattle.lq_tree.specs.Found.{Reads, map_found, within};
+ghost use Rattle.lq_tree.specs.Look.{Reads, map_found, within};
 ghost use Rattle.lq_tree.specs.Items.{item_path};
 ghost use Rattle.lq_cond.specs.Reading.{an_item, each_item, each_key, reaction, setting_at};
 ghost use Rattle.lq_cond.specs.Stated.{and_more};

@@ -1,5 +1,5 @@
 ghost use Rattle.std.specs.Prelude.{◌≡◌, IfOk, ◌∷◌, []};
-ghost use Rattle.lq_tree.specs.Found.{Reads, within};
+ghost use Rattle.lq_tree.specs.Look.{Reads, within};
 ghost use Rattle.lq_cond.specs.Reading.{a_reaction, reaction_named, reaction_of, setting_at};
 ghost use Rattle.lq_cond.specs.Stated.{and_more, nothing_stated, reaction_stated};
 

@@ -1,6 +1,6 @@
 ghost use Rattle.std.specs.Prelude.{◌≡◌};
-ghost use Rattle.lq_model.specs.Reserved.{is_tracking};
-ghost use Rattle.lq_cond.specs.Tracking.{is_tracking_key};
+ghost use Rattle.lq_model.specs.NameSpaces.{is_tracking};
+ghost use Rattle.lq_cond.specs.Kinds.{is_tracking_key};
 
 use lq_base::Name;
 

@@ -1,20 +1,49 @@
--- The tree of a file's bytes, by what the file is written in.
-use Rattle.std.specs.Prelude.{Err, List, Ok, Result, ℕ}
+-- A changelog's own preconditions, of which only HALT and WARN are reactions.
+use Rattle.std.specs.Prelude.{Bool, Err, List, None, Ok, Option, Result, Some, codes, cond, false, map, ℕ, ◌&&◌, ◌||◌}
+use Rattle.std.specs.Str.{bytes_eq}
+use Rattle.lq_base.specs.declared.dialect.Dialect.{Dialect}
 use Rattle.lq_base.specs.declared.fault.KindFault.TheVariants as kind
-use Rattle.lq_sources.specs.declared.fault.What.{What}
-use Rattle.lq_sources.specs.declared.fault.What.TheVariants as what
+use Rattle.lq_cond.specs.Reading.{reaction}
+use Rattle.lq_cond.specs.declared.cond.Reaction.{Reaction}
 use Rattle.lq_paths.specs.declared.path.Format.{Format}
 use Rattle.lq_paths.specs.declared.path.Format.TheVariants.{Json, Sql, Yaml}
+use Rattle.lq_sources.specs.declared.fault.What.{What}
+use Rattle.lq_sources.specs.declared.fault.What.TheVariants as what
 use Rattle.lq_sqltree.specs.SqlTree.{sql_tree}
 use Rattle.lq_sqltree.specs.declared.fault.SqlTreeFault.{SqlTreeFault}
 use Rattle.lq_sqltree.specs.declared.fault.SqlTreeFault.TheVariants as sql
 use Rattle.lq_tree.specs.Json.{json_tree}
-use Rattle.lq_tree.specs.declared.node.Node.{Node}
+use Rattle.lq_tree.specs.Look.{Taken, list_of, map_of, text_of}
+use Rattle.lq_tree.specs.declared.node.Node.{List as ListNode, Map as MapNode, Node, Null}
 use Rattle.lq_tree.specs.declared.node.TreeFault.{TreeFault}
 use Rattle.lq_tree.specs.declared.node.TreeFault.TheVariants as json
 use Rattle.lq_yaml.specs.Yaml.{yaml_tree}
 use Rattle.lq_yaml.specs.declared.fault.YamlFault.{YamlFault}
 use Rattle.lq_yaml.specs.declared.fault.YamlFault.TheVariants as yaml
+
+-- the reactions of a changeset alone
+abbrev pub is_of_sets : Option (List ℕ) → Bool
+is_of_sets None = false
+is_of_sets (Some text) = bytes_eq text (codes "CONTINUE") || bytes_eq text (codes "MARK_RAN")
+
+abbrev pub is_reaction : List ℕ → Bool
+is_reaction key = bytes_eq key (codes "onFail") || bytes_eq key (codes "onError")
+
+-- such a reaction stands for null, which is none
+abbrev pub own_entry : List ℕ × Node → List ℕ × Node
+own_entry e = (e.0, cond (is_reaction e.0 && is_of_sets (text_of e.1)) Null e.1)
+
+abbrev pub own_item : Node → Node
+own_item n = elim (map_of n) [ None ↦ n | Some es ↦ MapNode (map own_entry es) ]
+
+abbrev pub own_list : Node → Node
+own_list n = elim (list_of n) [ None ↦ n | Some ns ↦ ListNode (map own_item ns) ]
+
+-- the value of `preConditions` in a changelog
+unfoldable pub own_reaction : Dialect → Taken Reaction
+own_reaction d n = reaction d (own_list n)
+
+-- The tree of a file's bytes, by what the file is written in.
 
 abbrev pub what_of_json : TreeFault → What
 what_of_json json.NotJson = what.NotJson

@@ -1,7 +1,6 @@
 ghost use Rattle.std.specs.Prelude.{◌≡◌, IfOk, map};
-ghost use Rattle.lq_tree.specs.Found.{Reads};
-ghost use Rattle.lq_tree.specs.Look.{text_of};
-ghost use Rattle.lq_contents.specs.Own.{is_of_sets, is_reaction, own_entry, own_item, own_list, own_reaction};
+ghost use Rattle.lq_tree.specs.Look.{Reads, text_of};
+ghost use Rattle.lq_contents.specs.Trees.{is_of_sets, is_reaction, own_entry, own_item, own_list, own_reaction};
 
 use lq_base::{Dialect, Items, KindFault, NoMemory, Text};
 use lq_cond::{Cond, Reaction};

@@ -1,5 +1,5 @@
 ghost use Rattle.std.specs.Prelude.{◌≡◌};
-ghost use Rattle.lq_sources.specs.Answers.{IsMade};
+ghost use Rattle.lq_sources.specs.Faults.{IsMade};
 ghost use Rattle.lq_sqltree.specs.SqlTree.{sql_tree};
 ghost use Rattle.lq_tree.specs.Json.{json_tree};
 ghost use Rattle.lq_yaml.specs.Yaml.{yaml_tree};

@@ -6,18 +6,18 @@ use Rattle.lq_base.specs.declared.dialect.Dialect.{Dialect}
 use Rattle.lq_base.specs.declared.dialect.Dialect.TheVariants.{Mysql, Postgresql}
 use Rattle.lq_model.proofs.Lists.{and_true}
 use Rattle.lq_model.specs.SqlText.{StatementsAreSpelled, TestsAreSpelled, statement_in, test_in}
-use Rattle.lq_model.specs.Statement.{is_statement}
+use Rattle.lq_model.specs.Step.{is_statement}
 use Rattle.lq_model.specs.declared.statement.Statement.{Statement}
 use Rattle.lq_model.specs.declared.test.Test.{Test}
 use Rattle.lq_tree.proofs.Says.{IsSo, Says, Takes, all_found, anything, change_so, column_so, family_so, given, map_so, map_with_so, name_so, optional_so, or_bad_so, printed_so, required_items_so, required_so, start, then_so, within_so}
-use Rattle.lq_tree.specs.Found.{Found, map_found, or_bad, within}
+use Rattle.lq_tree.specs.Look.{Found, map_found, or_bad, within}
 use Rattle.lq_tree.specs.Given.{a_text}
 use Rattle.lq_tree.specs.Keys.{Keys, fields, place, required, ◌⊛◌}
 use Rattle.lq_data.specs.ColumnValue as column
 use Rattle.lq_data.specs.Delete as delete
 use Rattle.lq_data.specs.Empty as empty
-use Rattle.lq_data.specs.GivenSql.{GivenSql, is_dialect}
-use Rattle.lq_data.specs.GivenTest.{a_test, is_test}
+use Rattle.lq_data.specs.ColumnValue.{GivenSql, is_dialect}
+use Rattle.lq_data.specs.Sql.{a_test, is_test}
 use Rattle.lq_data.specs.Insert as insert
 use Rattle.lq_data.specs.Script.{Script, all_spelled, pieces_of, script, statements_in}
 use Rattle.lq_data.specs.Sql as sql

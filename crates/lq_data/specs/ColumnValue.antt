@@ -1,19 +1,67 @@
--- A column with the value that it takes.
-use Rattle.std.specs.Option.{option_map, unwrap_or}
-use Rattle.std.specs.Prelude.{Bool, List, Some, [], codes, map, ◌&&◌, ◌++◌, ◌∷◌}
+-- The four keys that can state a column's value.
+use Rattle.std.specs.Option.{option_and_then, option_map, unwrap_or}
+use Rattle.std.specs.Prelude.{Bool, List, None, Option, Some, [], codes, false, map, true, ℕ, ◌&&◌, ◌++◌, ◌∷◌}
 use Rattle.lq_base.specs.Name.{is_name}
-use Rattle.lq_base.specs.Options.{if_there}
+use Rattle.lq_base.specs.Number.{if_there}
+use Rattle.lq_base.specs.declared.dialect.Dialect.{Dialect}
+use Rattle.lq_base.specs.declared.dialect.Dialect.TheVariants.{Mysql, Postgresql}
 use Rattle.lq_base.specs.declared.literal.Literal.{Literal}
 use Rattle.lq_base.specs.declared.literal.Literal.TheVariants as literal
 use Rattle.lq_base.specs.declared.name.Name.{Name}
-use Rattle.lq_model.specs.Canon.{text}
-use Rattle.lq_model.specs.Written.{Row}
-use Rattle.lq_tree.specs.Found.{Taken}
+use Rattle.lq_data.specs.declared.column_value.ColumnValue.{ColumnValue}
+use Rattle.lq_model.specs.Changes.{CanonicalValue, decimal_value, number, text, truth}
+use Rattle.lq_model.specs.TakesBack.{Row}
+use Rattle.lq_model.specs.declared.statement.Statement.{Statement}
+use Rattle.lq_model.specs.declared.statement.Statement.TheVariants.{AddColumn, CreateTable, Delete, DropColumn, DropDefault, DropNotNull, DropTable, Insert, Modify, RenameColumn, RenameTable, SetDefault, SetNotNull, Update}
 use Rattle.lq_tree.specs.Given.{a_name}
 use Rattle.lq_tree.specs.Keys.{Keys, fields, map_with, required, ◌⊛◌}
-use Rattle.lq_tree.specs.Values.{is_given, literal_of}
-use Rattle.lq_data.specs.ValueKeys.{value_keys, value_rows}
-use Rattle.lq_data.specs.declared.column_value.ColumnValue.{ColumnValue}
+use Rattle.lq_tree.specs.Look.{Taken}
+use Rattle.lq_tree.specs.Values.{family, is_given, literal_of}
+use Rattle.lq_tree.specs.declared.values.GivenValue.{GivenValue}
+use Rattle.lq_tree.specs.declared.values.GivenValue.TheVariants.{Date, Decimal, Text, Truth, Whole}
+
+abbrev pub value_keys : Keys (Option GivenValue)
+value_keys = family (codes "value") (codes "valueNumeric") (codes "valueBoolean") (codes "valueDate")
+
+-- in canonical text
+
+abbrev pub text_in : GivenValue → Option CanonicalValue
+text_in (Text t) = Some (text t)
+text_in _ = None
+
+-- a decimal number is a text
+abbrev pub number_in : GivenValue → Option CanonicalValue
+number_in (Whole n) = Some (number n)
+number_in (Decimal units scale) = Some (decimal_value units scale)
+number_in _ = None
+
+abbrev pub truth_in : GivenValue → Option CanonicalValue
+truth_in (Truth b) = Some (truth b)
+truth_in _ = None
+
+abbrev pub date_in : GivenValue → Option CanonicalValue
+date_in (Date t) = Some (text t)
+date_in _ = None
+
+-- one of the four keys has the value
+abbrev pub stated_rows : GivenValue → List Row
+stated_rows v =
+    (codes "value", text_in v)
+    ∷ (codes "valueNumeric", number_in v)
+    ∷ (codes "valueBoolean", truth_in v)
+    ∷ (codes "valueDate", date_in v)
+    ∷ []
+
+-- the same where there may be none
+abbrev pub value_rows : Option GivenValue → List Row
+value_rows v =
+    (codes "value", option_and_then text_in v)
+    ∷ (codes "valueNumeric", option_and_then number_in v)
+    ∷ (codes "valueBoolean", option_and_then truth_in v)
+    ∷ (codes "valueDate", option_and_then date_in v)
+    ∷ []
+
+-- A column with the value that it takes.
 
 abbrev pub keys : Keys ColumnValue
 keys =
@@ -49,3 +97,35 @@ sets_of xs = map set_in xs
 -- in canonical text
 abbrev pub column_rows : ColumnValue → List Row
 column_rows x = ((codes "name", Some (text x.name)) ∷ []) ++ value_rows x.value
+
+-- Statements by what they are of.
+
+-- it is of a constraint, an index, a view or a sequence, and neither of a table, its columns or its rows
+abbrev pub is_of_object : Statement → Bool
+is_of_object (CreateTable t defs key uniques foreign) = false
+is_of_object (DropTable t) = false
+is_of_object (RenameTable t to) = false
+is_of_object (AddColumn t def) = false
+is_of_object (DropColumn t n) = false
+is_of_object (RenameColumn t n to) = false
+is_of_object (SetNotNull t n) = false
+is_of_object (DropNotNull t n) = false
+is_of_object (Modify t n k nullable) = false
+is_of_object (SetDefault t n l) = false
+is_of_object (DropDefault t n) = false
+is_of_object (Insert t ns ls) = false
+is_of_object (Update t sets test) = false
+is_of_object (Delete t test) = false
+is_of_object _ = true
+
+-- SQL texts as they are given.
+
+-- an SQL text as it was given, and the dialect for which it was read, which decides what it spells
+pub record GivenSql : Type 0 where
+  pub dialect : Dialect
+  pub text : List ℕ
+
+abbrev pub is_dialect : Dialect → Dialect → Bool
+is_dialect Postgresql Postgresql = true
+is_dialect Mysql Mysql = true
+is_dialect _ _ = false

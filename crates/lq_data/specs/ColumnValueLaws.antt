@@ -4,20 +4,20 @@ use Rattle.std.specs.List.{list_all}
 use Rattle.std.specs.Option.{option_map, unwrap_or}
 use Rattle.std.specs.Prelude.{Bool, List, None, Option, Some, [], map, not, refl, true, ◌∷◌, ◌≡◌}
 use Rattle.lq_base.specs.Name.{is_name}
-use Rattle.lq_base.specs.Options.{if_there}
+use Rattle.lq_base.specs.Number.{if_there}
 use Rattle.lq_base.specs.declared.literal.Literal.TheVariants as literal
-use Rattle.lq_model.proofs.Lists.{and_left, and_right, and_true}
-use Rattle.lq_model.proofs.Told.{map_told, maps_told, text_told}
-use Rattle.lq_model.specs.Canon.{list}
-use Rattle.lq_model.specs.Names.{is_empty}
-use Rattle.lq_model.specs.Spelled.{is_literal}
-use Rattle.lq_model.specs.Written.{map_with, maps, nth_value}
-use Rattle.lq_tree.specs.Items.{are_some}
-use Rattle.lq_tree.specs.Values.{is_given, literal_of}
-use Rattle.lq_tree.specs.declared.values.GivenValue.{GivenValue}
 use Rattle.lq_data.specs.ColumnValue.{column_rows, is_column_value, literal_in, literals_of, names_of, sets_of}
 use Rattle.lq_data.specs.ValueKeysLaws.{given_is_literal, value_told}
 use Rattle.lq_data.specs.declared.column_value.ColumnValue.{ColumnValue}
+use Rattle.lq_model.proofs.Lists.{and_left, and_right, and_true}
+use Rattle.lq_model.proofs.Told.{map_told, maps_told, text_told}
+use Rattle.lq_model.specs.Catalogue.{is_empty}
+use Rattle.lq_model.specs.Changes.{list}
+use Rattle.lq_model.specs.Comparison.{is_literal}
+use Rattle.lq_model.specs.TakesBack.{map_with, maps, nth_value}
+use Rattle.lq_tree.specs.Items.{are_some}
+use Rattle.lq_tree.specs.Values.{is_given, literal_of}
+use Rattle.lq_tree.specs.declared.values.GivenValue.{GivenValue}
 
 pub all_columns : (xs : List ColumnValue) → are_some is_column_value xs ≡ true → list_all is_column_value xs ≡ true
 all_columns [] h = absurd Prim.cc

@@ -2,17 +2,17 @@
 use Rattle.std.proofs.Common.{sym, ◌∙◌}
 use Rattle.std.specs.Option.{option_map}
 use Rattle.std.specs.Prelude.{List, None, Option, Some, refl, true, ℕ, ◌≡◌}
-use Rattle.lq_base.specs.Options.{if_there}
+use Rattle.lq_base.specs.Number.{if_there}
 use Rattle.lq_base.specs.declared.dialect.Dialect.{Dialect}
 use Rattle.lq_base.specs.declared.dialect.Dialect.TheVariants.{Mysql, Postgresql}
+use Rattle.lq_data.specs.ColumnValue.{GivenSql, is_dialect}
+use Rattle.lq_data.specs.Sql.{given_text, is_test, is_written, test_of}
 use Rattle.lq_model.proofs.Lists.{and_left, and_right}
 use Rattle.lq_model.proofs.Told.{if_told}
-use Rattle.lq_model.specs.Canon.{text}
+use Rattle.lq_model.specs.Changes.{text}
 use Rattle.lq_model.specs.SqlText.{test_in}
-use Rattle.lq_model.specs.Statement.{is_where}
+use Rattle.lq_model.specs.Step.{is_where}
 use Rattle.lq_model.specs.declared.test.Test.{Test}
-use Rattle.lq_data.specs.GivenSql.{GivenSql, is_dialect}
-use Rattle.lq_data.specs.GivenTest.{given_text, is_test, is_written, test_of}
 
 pub dialect_is : (d e : Dialect) → is_dialect d e ≡ true → d ≡ e
 dialect_is Postgresql Postgresql h = refl

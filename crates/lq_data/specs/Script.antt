@@ -1,7 +1,7 @@
 -- Texts of several statements.
 use Rattle.std.specs.Prelude.{Bool, List, Option, Some, [], if◌then◌else◌, not, option_and_then, option_map, ℕ, ◌∷◌}
 use Rattle.lq_base.specs.declared.dialect.Dialect.{Dialect}
-use Rattle.lq_model.specs.Names.{is_empty}
+use Rattle.lq_model.specs.Catalogue.{is_empty}
 use Rattle.lq_model.specs.SqlText.{statement_in}
 use Rattle.lq_model.specs.declared.statement.Statement.{Statement}
 use Rattle.lq_sqllex.specs.Pieces.{kept, pieces}

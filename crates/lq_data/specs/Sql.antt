@@ -1,22 +1,48 @@
--- sql: the statements that a text spells are run.
+-- Tests of rows as they are given.
 use Rattle.std.specs.List.{list_all}
 use Rattle.std.specs.Option.{unwrap_or}
 use Rattle.std.specs.Prelude.{Bool, List, None, Option, Result, Some, [], codes, false, option_and_then, true, ℕ, ◌&&◌, ◌∷◌}
 use Rattle.lq_base.specs.declared.dialect.Dialect.{Dialect}
 use Rattle.lq_base.specs.declared.reason.Reason.{Reason}
-use Rattle.lq_model.specs.Canon.{CanonicalChange, text, truth}
+use Rattle.lq_data.specs.ColumnValue.{GivenSql, is_dialect}
+use Rattle.lq_data.specs.Script.{Script, is_delimiter, script, statements_in}
 use Rattle.lq_model.specs.Catalogue.{Catalogue}
-use Rattle.lq_model.specs.Statement.{is_statement}
-use Rattle.lq_model.specs.Step.{run}
-use Rattle.lq_model.specs.Written.{Row, change_of}
+use Rattle.lq_model.specs.Changes.{CanonicalChange, CanonicalValue, text, truth}
+use Rattle.lq_model.specs.SqlText.{test_in}
+use Rattle.lq_model.specs.Step.{is_statement, is_where, run}
+use Rattle.lq_model.specs.TakesBack.{Row, change_of}
 use Rattle.lq_model.specs.declared.caller.By.TheVariants.{User}
 use Rattle.lq_model.specs.declared.statement.Statement.{Statement}
-use Rattle.lq_tree.specs.Found.{Found, Taken, and_then, map_found, or_bad, within}
+use Rattle.lq_model.specs.declared.test.Test.{Test}
 use Rattle.lq_tree.specs.Given.{a_text, a_truth, if_so}
 use Rattle.lq_tree.specs.Keys.{Keys, fields, map_with, optional, place, required, ◌⊛◌}
-use Rattle.lq_tree.specs.Look.{printed_of}
-use Rattle.lq_data.specs.GivenSql.{is_dialect}
-use Rattle.lq_data.specs.Script.{Script, is_delimiter, script, statements_in}
+use Rattle.lq_tree.specs.Look.{Found, Taken, and_then, map_found, or_bad, printed_of, within}
+
+-- a scalar that is printed as a text which spells a test
+abbrev pub a_test : Dialect → Taken GivenSql
+a_test d n = and_then (a_text n) (λ t. map_found (λ test. record { dialect = d; text = t }) (or_bad (test_in d t)))
+
+abbrev pub where_keys : Dialect → Keys (Option GivenSql)
+where_keys d = optional (codes "where") (a_test d)
+
+-- there is a test, and it can be written
+abbrev pub is_written : Option Test → Bool
+is_written None = false
+is_written (Some test) = is_where (Some test)
+
+-- it was read for the dialect, in which it spells a test
+abbrev pub is_test : Dialect → GivenSql → Bool
+is_test d given = is_dialect d given.dialect && is_written (test_in given.dialect given.text)
+
+-- the test that it spells, where one was given
+abbrev pub test_of : Option GivenSql → Option Test
+test_of given = option_and_then (λ (g : GivenSql). test_in g.dialect g.text) given
+
+-- its canonical value is its text
+abbrev pub given_text : GivenSql → CanonicalValue
+given_text given = text given.text
+
+-- sql: the statements that a text spells are run.
 
 -- its keys
 

@@ -4,16 +4,16 @@ use Rattle.std.specs.List.{list_all}
 use Rattle.std.specs.Option.{unwrap_or}
 use Rattle.std.specs.Prelude.{List, None, Option, Some, [], codes, refl, true, ◌≡◌}
 use Rattle.lq_base.specs.declared.dialect.Dialect.{Dialect}
-use Rattle.lq_model.proofs.Lists.{and_left, and_right}
-use Rattle.lq_model.proofs.Told.{keys_told, text_told, truth_told}
-use Rattle.lq_model.specs.Changes.{AreReturns, AreStatements, AreTold, HaveEffect, TakeBack}
-use Rattle.lq_model.specs.Statement.{is_statement}
-use Rattle.lq_model.specs.Written.{nth_value}
-use Rattle.lq_model.specs.declared.statement.Statement.{Statement}
-use Rattle.lq_data.specs.GivenSql.{is_dialect}
+use Rattle.lq_data.specs.ColumnValue.{is_dialect}
 use Rattle.lq_data.specs.GivenTestLaws.{dialect_is}
 use Rattle.lq_data.specs.Script.{Script, statements_in}
 use Rattle.lq_data.specs.Sql.{are_written, canonical_of, effect, gives, inverse, is_for, is_fresh, rows}
+use Rattle.lq_model.proofs.Lists.{and_left, and_right}
+use Rattle.lq_model.proofs.Told.{keys_told, text_told, truth_told}
+use Rattle.lq_model.specs.Changes.{AreReturns, AreStatements, AreTold, HaveEffect, TakeBack}
+use Rattle.lq_model.specs.Step.{is_statement}
+use Rattle.lq_model.specs.TakesBack.{nth_value}
+use Rattle.lq_model.specs.declared.statement.Statement.{Statement}
 
 all_written : (d : Dialect) (o : Option (List Statement)) → are_written d o ≡ true → list_all (is_statement d) (unwrap_or o []) ≡ true
 all_written d None h = absurd Prim.cc

@@ -1,18 +1,23 @@
 -- tagDatabase: the changeset's row gets a tag, and nothing else is done.
-use Rattle.std.specs.Prelude.{Bool, List, Option, Result, Some, [], codes, nat_le, not, option_and_then, true, ℕ, ◌&&◌, ◌∷◌}
-use Rattle.lq_base.specs.Character.{char_count, has_control}
+use Rattle.std.proofs.Common.{ap, subst, sym}
+use Rattle.std.specs.List.{list_all}
+use Rattle.std.specs.Prelude.{Bool, List, Ok, Option, Result, Some, [], codes, nat_le, not, option_and_then, refl, true, ℕ, ◌&&◌, ◌∷◌, ◌≡◌}
+use Rattle.lq_base.specs.Number.{char_count, has_control}
 use Rattle.lq_base.specs.declared.dialect.Dialect.{Dialect}
 use Rattle.lq_base.specs.declared.reason.Reason.{Reason}
-use Rattle.lq_model.specs.Canon.{CanonicalChange, text}
+use Rattle.lq_data.specs.declared.tag_database.TagDatabase.{TagDatabase}
+use Rattle.lq_model.proofs.Effects.{does_so, ok_same, restores_so, some_same}
+use Rattle.lq_model.proofs.Told.{keys_told, text_told}
 use Rattle.lq_model.specs.Catalogue.{Catalogue}
-use Rattle.lq_model.specs.Effect.{effect_of}
-use Rattle.lq_model.specs.Written.{Row, change_of}
+use Rattle.lq_model.specs.Changes.{AreReturns, AreStatements, AreTold, CanonicalChange, HaveEffect, TakeBack, text}
+use Rattle.lq_model.specs.Effect.{Becomes, GoesBack, effect_of}
+use Rattle.lq_model.specs.Step.{is_statement, run}
+use Rattle.lq_model.specs.TakesBack.{Row, change_of, nth_value}
+use Rattle.lq_model.specs.declared.caller.By.TheVariants.{User}
 use Rattle.lq_model.specs.declared.statement.Statement.{Statement}
-use Rattle.lq_tree.specs.Found.{Taken, or_bad}
 use Rattle.lq_tree.specs.Given.{if_so}
 use Rattle.lq_tree.specs.Keys.{Keys, a_change, fields, required, ◌⊛◌}
-use Rattle.lq_tree.specs.Look.{printed_of}
-use Rattle.lq_data.specs.declared.tag_database.TagDatabase.{TagDatabase}
+use Rattle.lq_tree.specs.Look.{Taken, or_bad, printed_of}
 
 -- 1 to 255 characters, none a control character
 abbrev pub is_tag : List ℕ → Bool
@@ -63,3 +68,31 @@ rows x = (codes "tag", Some (text x.tag)) ∷ []
 
 abbrev pub canonical_of : TagDatabase → CanonicalChange
 canonical_of x = change_of (codes "tagDatabase") (rows x)
+
+-- That tagDatabase keeps its promises.
+
+pub spelled : AreStatements is_for gives
+spelled d x right = refl
+
+pub returned : AreReturns is_for inverse
+returned d x undoing right taken = subst (λ ss. list_all (is_statement d) ss ≡ true) (some_same taken) refl
+
+becomes_so : Becomes gives becomes is_for
+becomes_so d x c e right sound ran = ok_same ran
+
+pub does : HaveEffect is_for gives effect
+does = does_so is_for gives becomes becomes_so
+
+goes_back : GoesBack is_for gives is_fresh inverse
+goes_back d x c e undoing right sound new ran taken = subst (λ ss. run User d ss e ≡ Ok c) (some_same taken) (subst (λ z. run User d [] e ≡ Ok z) (sym (ok_same ran)) refl)
+
+pub restores : TakeBack is_for effect is_fresh inverse
+restores = restores_so is_for gives becomes is_fresh inverse becomes_so goes_back
+
+same : (x y : TagDatabase) → x.tag ≡ y.tag → x ≡ y
+same x y tag = rw tag refl
+
+pub told : AreTold is_for canonical_of
+told d x y right also e =
+    let is : rows x ≡ rows y = keys_told (codes "tagDatabase") (codes "tagDatabase") (rows x) (rows y) refl refl e in
+    same x y (text_told (ap (nth_value 0) is))

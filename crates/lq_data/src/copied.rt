@@ -1,7 +1,7 @@
 //! Statements copied.
 ghost use Rattle.std.specs.Prelude.{◌≡◌, ◌++◌, ◌∷◌, [], IfOk, OnErr, OnOk, true};
 ghost use Rattle.lq_model.specs.declared.statement.Statement.TheVariants as statement;
-ghost use Rattle.lq_data.specs.Copied.{is_of_object};
+ghost use Rattle.lq_data.specs.ColumnValue.{is_of_object};
 
 use lq_base::{Duplicate, Items, Kind, Name, NoMemory, cut};
 use lq_model::{ColumnDef, ForeignKey, Key, Query, Statement, Unique};

@@ -1,5 +1,5 @@
 ghost use Rattle.std.specs.Prelude.{◌≡◌, IfOk, true};
-ghost use Rattle.lq_tree.specs.Found.{Reads};
+ghost use Rattle.lq_tree.specs.Look.{Reads};
 ghost use Rattle.lq_data.specs.Delete.{a_delete, is_for};
 
 use crate::given_test::{GivenTest, test_of, where_field, where_test};
@@ -40,8 +40,7 @@ impl Delete {
 }
 
 impl Change for Delete {
-    ghost use Rattle.lq_data.specs.Delete.{canonical_of, effect, gives, inverse, is_for, is_fresh};
-    ghost use Rattle.lq_data.specs.DeleteLaws.{does, restores, returned, spelled, told};
+    ghost use Rattle.lq_data.specs.Delete.{canonical_of, effect, gives, inverse, is_for, is_fresh, does, restores, returned, spelled, told};
     ghost use Rattle.lq_data.specs.declared.delete.Delete.{Delete};
 
     ghost Key = { Delete };

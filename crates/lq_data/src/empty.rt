@@ -1,5 +1,5 @@
 ghost use Rattle.std.specs.Prelude.{◌≡◌, IfOk, true};
-ghost use Rattle.lq_tree.specs.Found.{Reads};
+ghost use Rattle.lq_tree.specs.Look.{Reads};
 ghost use Rattle.lq_data.specs.Empty.{an_empty, is_for};
 
 use lq_base::{Dialect, Items, KindFault, NoMemory};
@@ -32,8 +32,7 @@ impl Empty {
 }
 
 impl Change for Empty {
-    ghost use Rattle.lq_data.specs.Empty.{canonical_of, effect, gives, inverse, is_for, is_fresh};
-    ghost use Rattle.lq_data.specs.EmptyLaws.{does, restores, returned, spelled, told};
+    ghost use Rattle.lq_data.specs.Empty.{canonical_of, effect, gives, inverse, is_for, is_fresh, does, restores, returned, spelled, told};
     ghost use Rattle.lq_data.specs.declared.empty.Empty.{Empty};
 
     ghost Key = { Empty };

@@ -1,11 +1,11 @@
 //! A test of rows as it is given.
 ghost use Rattle.std.specs.Option.{option_map};
 ghost use Rattle.std.specs.Prelude.{◌≡◌, codes, IfOk, Some, true};
-ghost use Rattle.lq_base.specs.Options.{if_there};
+ghost use Rattle.lq_base.specs.Number.{if_there};
 ghost use Rattle.lq_model.specs.SqlText.{test_in};
-ghost use Rattle.lq_model.specs.Written.{field_value};
-ghost use Rattle.lq_tree.specs.Found.{Reads, within};
-ghost use Rattle.lq_data.specs.GivenTest.{a_test, given_text, is_test, test_of, where_keys};
+ghost use Rattle.lq_model.specs.TakesBack.{field_value};
+ghost use Rattle.lq_tree.specs.Look.{Reads, within};
+ghost use Rattle.lq_data.specs.Sql.{a_test, given_text, is_test, test_of, where_keys};
 
 use lq_base::{Dialect, Duplicate, KindFault, NoMemory, Text};
 use lq_model::{Field, ParseFault, SqlText, Test};
@@ -25,7 +25,7 @@ pub struct GivenTest {
 impl Model for GivenTest {
     ghost use Rattle.std.specs.Prelude.{◌≡◌, Some};
     ghost use Rattle.lq_model.specs.SqlText.{test_in};
-    ghost use Rattle.lq_data.specs.GivenSql.{GivenSql};
+    ghost use Rattle.lq_data.specs.ColumnValue.{GivenSql};
 
     ghost Value = { GivenSql };
 

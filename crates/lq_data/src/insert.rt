@@ -1,5 +1,5 @@
 ghost use Rattle.std.specs.Prelude.{◌≡◌, IfOk, true};
-ghost use Rattle.lq_tree.specs.Found.{Reads};
+ghost use Rattle.lq_tree.specs.Look.{Reads};
 ghost use Rattle.lq_data.specs.Insert.{an_insert, is_for};
 
 use crate::column_value::{ColumnValue, literals_of, names_of};
@@ -49,8 +49,7 @@ impl Insert {
 }
 
 impl Change for Insert {
-    ghost use Rattle.lq_data.specs.Insert.{canonical_of, effect, gives, inverse, is_for, is_fresh};
-    ghost use Rattle.lq_data.specs.InsertLaws.{does, restores, returned, spelled, told};
+    ghost use Rattle.lq_data.specs.Insert.{canonical_of, effect, gives, inverse, is_for, is_fresh, does, restores, returned, spelled, told};
     ghost use Rattle.lq_data.specs.declared.insert.Insert.{Insert};
 
     ghost Key = { Insert };

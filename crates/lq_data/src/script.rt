@@ -1,8 +1,8 @@
 //! The statements that a text spells, piece by piece.
 ghost use Rattle.std.specs.List.{list_all};
 ghost use Rattle.std.specs.Prelude.{◌≡◌, ◌∷◌, [], IfOk, true};
-ghost use Rattle.lq_model.specs.Reads.{Gives};
-ghost use Rattle.lq_model.specs.Statement.{is_statement};
+ghost use Rattle.lq_model.specs.SqlParser.{Gives};
+ghost use Rattle.lq_model.specs.Step.{is_statement};
 ghost use Rattle.lq_sqllex.specs.Pieces.{kept};
 ghost use Rattle.lq_data.specs.Script.{all_spelled, is_delimiter, pieces_of, script, statements_in};
 

@@ -1,5 +1,5 @@
 ghost use Rattle.std.specs.Prelude.{◌≡◌, IfOk, true};
-ghost use Rattle.lq_tree.specs.Found.{Reads};
+ghost use Rattle.lq_tree.specs.Look.{Reads};
 ghost use Rattle.lq_data.specs.Script.{is_delimiter, script};
 ghost use Rattle.lq_data.specs.Sql.{a_sql, delimiter_keys, is_for, split_keys, with_statements};
 

@@ -1,5 +1,5 @@
 ghost use Rattle.std.specs.Prelude.{◌≡◌, IfOk, true};
-ghost use Rattle.lq_tree.specs.Found.{Reads};
+ghost use Rattle.lq_tree.specs.Look.{Reads};
 ghost use Rattle.lq_data.specs.TagDatabase.{a_tag_database, is_for, is_tag};
 
 use lq_base::{Dialect, Items, KindFault, NoMemory, Text, char_count, has_control};
@@ -65,8 +65,7 @@ impl TagDatabase {
 }
 
 impl Change for TagDatabase {
-    ghost use Rattle.lq_data.specs.TagDatabase.{canonical_of, effect, gives, inverse, is_for, is_fresh};
-    ghost use Rattle.lq_data.specs.TagDatabaseLaws.{does, restores, returned, spelled, told};
+    ghost use Rattle.lq_data.specs.TagDatabase.{canonical_of, effect, gives, inverse, is_for, is_fresh, does, restores, returned, spelled, told};
     ghost use Rattle.lq_data.specs.declared.tag_database.TagDatabase.{TagDatabase};
 
     ghost Key = { TagDatabase };

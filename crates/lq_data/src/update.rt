@@ -1,5 +1,5 @@
 ghost use Rattle.std.specs.Prelude.{◌≡◌, IfOk, true};
-ghost use Rattle.lq_tree.specs.Found.{Reads};
+ghost use Rattle.lq_tree.specs.Look.{Reads};
 ghost use Rattle.lq_data.specs.Update.{an_update, is_for};
 
 use crate::column_value::{ColumnValue, sets_of};
@@ -69,8 +69,7 @@ impl Update {
 }
 
 impl Change for Update {
-    ghost use Rattle.lq_data.specs.Update.{canonical_of, effect, gives, inverse, is_for, is_fresh};
-    ghost use Rattle.lq_data.specs.UpdateLaws.{does, restores, returned, spelled, told};
+    ghost use Rattle.lq_data.specs.Update.{canonical_of, effect, gives, inverse, is_for, is_fresh, does, restores, returned, spelled, told};
     ghost use Rattle.lq_data.specs.declared.update.Update.{Update};
 
     ghost Key = { Update };

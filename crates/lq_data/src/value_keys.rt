@@ -1,12 +1,12 @@
 //! The four keys that can state a column's value, read and written.
 ghost use Rattle.std.specs.Option.{option_map};
 ghost use Rattle.std.specs.Prelude.{◌≡◌, IfOk, Some, true};
-ghost use Rattle.lq_base.specs.Options.{if_there};
-ghost use Rattle.lq_model.specs.Canon.{decimal_value, number};
-ghost use Rattle.lq_model.specs.Written.{field_value};
-ghost use Rattle.lq_tree.specs.Found.{Reads};
+ghost use Rattle.lq_base.specs.Number.{if_there};
+ghost use Rattle.lq_model.specs.Changes.{decimal_value, number};
+ghost use Rattle.lq_model.specs.TakesBack.{field_value};
+ghost use Rattle.lq_tree.specs.Look.{Reads};
 ghost use Rattle.lq_tree.specs.Values.{is_given};
-ghost use Rattle.lq_data.specs.ValueKeys.{value_keys};
+ghost use Rattle.lq_data.specs.ColumnValue.{value_keys};
 
 use lq_base::{KindFault, NoMemory};
 use lq_model::{Canon, Field, Fields, Written};
@@ -45,7 +45,7 @@ fn decimal_field(units: i128, scale: u8) -> Option<Field<'static>>
 struct StatedAt<'a>(&'a GivenValue);
 
 impl Written for StatedAt<'_> {
-    ghost use Rattle.lq_data.specs.ValueKeys.{stated_rows};
+    ghost use Rattle.lq_data.specs.ColumnValue.{stated_rows};
 
     ghost rows = { λ at. stated_rows at.0.now };
 
@@ -75,7 +75,7 @@ impl Written for StatedAt<'_> {
 pub(crate) struct ValueAt<'a>(pub(crate) &'a Option<GivenValue>);
 
 impl Written for ValueAt<'_> {
-    ghost use Rattle.lq_data.specs.ValueKeys.{value_rows};
+    ghost use Rattle.lq_data.specs.ColumnValue.{value_rows};
 
     ghost rows = { λ at. value_rows at.0.now };
 

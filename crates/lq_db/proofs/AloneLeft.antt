@@ -5,9 +5,8 @@ use Rattle.lq_base.specs.declared.dialect.Dialect.{Dialect}
 use Rattle.lq_base.specs.declared.reason.Reason.{Reason}
 use Rattle.lq_base.specs.declared.tracking.Lock.{Lock}
 use Rattle.lq_db.specs.Alone.{IsAtRest, IsDone, IsRunning, MayPrepare, work}
-use Rattle.lq_db.specs.Db.{IsBegun, IsHeld, Stays}
+use Rattle.lq_db.specs.Db.{IsBegun, IsHeld, Stays, IsLockOf}
 use Rattle.lq_session.specs.Session.{begun_in}
-use Rattle.lq_db.specs.Lock.{IsLockOf}
 use Rattle.lq_entries.specs.Log.{IsCut, Log, gained}
 use Rattle.lq_session.specs.declared.open.Open.{Open}
 use Rattle.lq_db.specs.declared.running.Running.{Running}

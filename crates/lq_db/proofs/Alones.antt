@@ -4,8 +4,7 @@ use Rattle.std.proofs.lemmas.List.{append_assoc}
 use Rattle.lq_base.specs.declared.dialect.Dialect.{Dialect}
 use Rattle.lq_base.specs.declared.reason.Reason.{Reason}
 use Rattle.lq_db.specs.Alone.{IsClosed, IsDone, IsRunning, RanOne, TakesUp, cut, rewound, work}
-use Rattle.lq_db.specs.Db.{Stays}
-use Rattle.lq_db.specs.Last.{last_text}
+use Rattle.lq_db.specs.Db.{Stays, last_text}
 use Rattle.lq_entries.specs.Log.{entries_of}
 use Rattle.lq_session.specs.Session.{texts_in}
 use Rattle.lq_db.specs.declared.running.Running.{Running}
@@ -16,11 +15,9 @@ use Rattle.lq_db.proofs.Lasts.{added_last, closed_last, written_last}
 use Rattle.lq_db.proofs.RanItself.{run_two}
 use Rattle.lq_model.proofs.KeepsSound.{statement_keeps}
 use Rattle.lq_model.specs.Catalogue.{Catalogue}
-use Rattle.lq_model.specs.Commits.{commits_itself}
+use Rattle.lq_model.specs.Step.{commits_itself, is_statement, step}
 use Rattle.lq_model.specs.Sound.{IsSound}
 use Rattle.lq_model.specs.SqlText.{statement_in}
-use Rattle.lq_model.specs.Statement.{is_statement}
-use Rattle.lq_model.specs.Step.{step}
 use Rattle.lq_model.specs.declared.caller.By.{By}
 use Rattle.lq_model.specs.declared.caller.ByText.{ByText}
 use Rattle.lq_model.specs.declared.statement.Statement.{Statement}

@@ -10,8 +10,7 @@ use Rattle.lq_model.specs.declared.fault.StoreFault.{StoreFault}
 use Rattle.lq_model.specs.declared.fault.StoreFault.TheVariants.{Busy, Full}
 use Rattle.lq_journal.specs.declared.fault.AppendFault.TheVariants as append
 use Rattle.lq_store.specs.Calls.{Fails, IsBusy, MayCommit}
-use Rattle.lq_store.specs.Journal.{Entry, database, end_of, is_full, of_texts, run_entries, run_entry, run_texts}
-use Rattle.lq_store.specs.State.{State, Transaction, other, other_in, seen_in}
+use Rattle.lq_store.specs.Journal.{Entry, database, end_of, is_full, of_texts, run_entries, run_entry, run_texts, State, Transaction, other, other_in, seen_in}
 use Rattle.lq_store.specs.Work.{committed, work_in}
 use Rattle.lq_store.specs.Executor.{Held, forgotten, kept}
 use Rattle.lq_db.specs.Db.{IsBegun, IsHeld, IsOpen}

@@ -8,21 +8,17 @@ use Rattle.lq_base.specs.declared.tracking.Lock.{Lock}
 use Rattle.lq_model.specs.Catalogue.{Catalogue}
 use Rattle.lq_model.proofs.KeepsSound.{statement_keeps}
 use Rattle.lq_model.specs.Sound.{IsSound}
-use Rattle.lq_model.specs.Statement.{is_statement}
-use Rattle.lq_db.specs.Lock.{IsLockOf}
+use Rattle.lq_model.specs.Step.{is_statement, step, commits_itself}
+use Rattle.lq_db.specs.Db.{IsLockOf, IsAdded, IsBegun, IsHeld, IsOpen, MayTake, Stays}
 use Rattle.lq_model.specs.SqlText.{statement_in}
-use Rattle.lq_model.specs.Step.{step}
 use Rattle.lq_model.specs.declared.caller.By.{By}
 use Rattle.lq_model.specs.declared.caller.By.TheVariants.{Program}
 use Rattle.lq_model.specs.declared.fault.StoreFault.{StoreFault}
 use Rattle.lq_model.specs.declared.fault.StoreFault.TheVariants.{Refused, NotSql, OutOfMemory}
 use Rattle.lq_model.specs.declared.statement.Statement.{Statement}
 use Rattle.lq_store.specs.Calls.{MayExecute}
-use Rattle.lq_store.specs.Journal.{Entry, accepted, database, run_text, run_texts}
-use Rattle.lq_store.specs.State.{State, Transaction}
-use Rattle.lq_model.specs.Commits.{commits_itself}
+use Rattle.lq_store.specs.Journal.{Entry, accepted, database, run_text, run_texts, State, Transaction}
 use Rattle.lq_store.specs.Executor.{Held, kept}
-use Rattle.lq_db.specs.Db.{IsAdded, IsBegun, IsHeld, IsOpen, MayTake, Stays}
 use Rattle.lq_session.specs.Session.{begun_in, lock_in, texts_in}
 use Rattle.lq_entries.specs.Log.{Log}
 use Rattle.lq_session.specs.declared.open.Open.{Open}

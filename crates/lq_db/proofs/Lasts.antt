@@ -14,9 +14,7 @@ use Rattle.lq_store.specs.Executor.{Held}
 use Rattle.lq_store.specs.Calls.{ends_in_texts, is_of_texts}
 use Rattle.lq_store.specs.Journal.{Entry, of_texts}
 use Rattle.lq_store.specs.Journal.Entry.{Stated, Texts}
-use Rattle.lq_frames.specs.Body.{as_body, if_any, is_state, texts_from}
-use Rattle.lq_frames.specs.Frames.{frames_of}
-use Rattle.lq_frames.specs.Journal.{from_last_state, has_state, placed, read_frames}
+use Rattle.lq_frames.specs.Body.{as_body, if_any, is_state, texts_from, frames_of, from_last_state, has_state, placed, read_frames}
 use Rattle.lq_frames.specs.declared.entry.Body.{Body}
 use Rattle.lq_frames.specs.declared.entry.Body.TheVariants as body
 use Rattle.lq_frames.specs.declared.entry.Entry.{Entry as Placed}
@@ -24,9 +22,8 @@ use Rattle.lq_session.specs.Session.{Side, side, texts_in}
 use Rattle.lq_session.specs.declared.open.Open.{Open}
 use Rattle.lq_entries.specs.Log.{Log, as_entry, entries_in, entries_of, gained, if_undamaged, unplaced}
 use Rattle.lq_journal.specs.Reading.{IsRead}
-use Rattle.lq_db.specs.Db.{MayTake, lives}
-use Rattle.lq_db.specs.Itself.{MayRunItself}
-use Rattle.lq_db.specs.Last.{AreLast, TellLast, after_itself, after_taken, last_after, last_text, with_all, with_entry, with_last, with_text}
+use Rattle.lq_db.specs.Db.{MayTake, lives, AreLast, TellLast, after_itself, after_taken, last_after, last_text, with_all, with_entry, with_last, with_text}
+use Rattle.lq_db.specs.Alone.{MayRunItself}
 use Rattle.lq_db.specs.declared.last_texts.LastTexts.{LastTexts}
 use Rattle.lq_db.proofs.Commits.{begun_same}
 

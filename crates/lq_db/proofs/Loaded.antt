@@ -2,9 +2,8 @@
 use Rattle.std.proofs.Common.{◌≡◌, ◌∙◌, ℕ, true, List, Ok, Err, Result, Option, None, Some, IfSome, refl, sym, ap, subst}
 use Rattle.lq_base.specs.declared.dialect.Dialect.{Dialect}
 use Rattle.lq_base.specs.declared.tracking.Lock.{Lock}
-use Rattle.lq_db.specs.Db.{IsHeld}
+use Rattle.lq_db.specs.Db.{IsHeld, IsLockOf}
 use Rattle.lq_db.specs.Load.{IsDbFault}
-use Rattle.lq_db.specs.Lock.{IsLockOf}
 use Rattle.lq_entries.proofs.Folded.{folded_runs, from_last_leads}
 use Rattle.lq_entries.specs.Load.{catalogue_of, folded, if_clean, is_clean, read_entries}
 use Rattle.lq_entries.specs.Log.{IsUndamaged, entries_in}

@@ -7,25 +7,21 @@ use Rattle.lq_base.specs.declared.tracking.Lock.{Lock}
 use Rattle.lq_model.specs.Catalogue.{Catalogue, no_objects}
 use Rattle.lq_model.proofs.KeepsSound.{statement_keeps}
 use Rattle.lq_model.specs.Sound.{IsSound}
-use Rattle.lq_model.specs.Statement.{is_statement}
+use Rattle.lq_model.specs.Step.{is_statement, step, commits_itself}
 use Rattle.lq_model.specs.SqlText.{statement_in}
-use Rattle.lq_model.specs.Step.{step}
 use Rattle.lq_model.specs.declared.caller.By.{By}
 use Rattle.lq_model.specs.declared.fault.StoreFault.{StoreFault}
 use Rattle.lq_model.specs.declared.fault.StoreFault.TheVariants.{Refused, Disk, Full, OutOfMemory}
 use Rattle.lq_model.specs.declared.statement.Statement.{Statement}
 use Rattle.lq_store.specs.Calls.{MayExecute, executed}
-use Rattle.lq_store.specs.Journal.{Entry, database, run_entries, run_text, run_texts}
+use Rattle.lq_store.specs.Journal.{Entry, database, run_entries, run_text, run_texts, State, Transaction}
 use Rattle.lq_store.specs.Journal.Entry.{Texts}
-use Rattle.lq_store.specs.State.{State, Transaction}
-use Rattle.lq_model.specs.Commits.{commits_itself}
 use Rattle.lq_store.specs.Work.{Work, outcome_by, work_in}
 use Rattle.lq_store.specs.Executor.{Held, kept}
-use Rattle.lq_db.specs.Db.{IsBegun, IsHeld, IsOpen, lives}
+use Rattle.lq_db.specs.Db.{IsBegun, IsHeld, IsOpen, lives, IsLockOf}
 use Rattle.lq_session.specs.Session.{IsCleared, Side, begun_in, lock_in, side, texts_in}
 use Rattle.lq_entries.specs.Log.{Log, UnlessFailed, entries_of, gained}
-use Rattle.lq_db.specs.Itself.{IsKept, MayRunItself, itself_entries}
-use Rattle.lq_db.specs.Lock.{IsLockOf}
+use Rattle.lq_db.specs.Alone.{IsKept, MayRunItself, itself_entries}
 use Rattle.lq_session.specs.declared.open.Open.{Open}
 use Rattle.lq_db.proofs.Commits.{back_held, begun_same, failed, held_same, if_any_is, journal_with, open_is, run_more, run_one, state}
 use Rattle.lq_loading.proofs.Raises.{ran_text}

@@ -3,22 +3,19 @@ use Rattle.std.proofs.Common.{◌≡◌, ◌∙◌, ℕ, Bool, true, false, cond
 use Rattle.std.specs.Option.{option_map}
 use Rattle.lq_base.specs.declared.dialect.Dialect.{Dialect}
 use Rattle.lq_base.specs.declared.tracking.Lock.{Lock}
-use Rattle.lq_codec.specs.Database.{bytes_of}
+use Rattle.lq_codec.specs.Tables.{bytes_of}
 use Rattle.lq_codec.specs.State.{state_of}
 use Rattle.lq_model.specs.Catalogue.{Catalogue, no_objects}
 use Rattle.lq_model.specs.declared.caller.Room.TheVariants.{Ordinary}
 use Rattle.lq_model.specs.declared.fault.StoreFault.{StoreFault}
 use Rattle.lq_model.specs.declared.fault.StoreFault.TheVariants.{Disk, Full, OutOfMemory}
 use Rattle.lq_store.specs.Calls.{MaySnapshot, ends_in_texts, stated}
-use Rattle.lq_store.specs.Crashes.{Crashes, LeavesFront}
+use Rattle.lq_store.specs.Journal.{Crashes, LeavesFront, Entry, database, size_of_all, Transaction}
 use Rattle.lq_store.specs.Executor.{Held, kept}
-use Rattle.lq_store.specs.Journal.{Entry, database, size_of_all}
-use Rattle.lq_store.specs.State.{Transaction}
 use Rattle.lq_entries.specs.Log.{Log, MayWrite, gained}
 use Rattle.lq_session.specs.Session.{begun_in}
 use Rattle.lq_session.specs.declared.open.Open.{Open}
-use Rattle.lq_db.specs.Db.{IsHeld, is_unwritten, lives}
-use Rattle.lq_db.specs.Last.{TellLast, after_state}
+use Rattle.lq_db.specs.Db.{IsHeld, is_unwritten, lives, TellLast, after_state}
 use Rattle.lq_db.specs.declared.last_texts.LastTexts.{LastTexts}
 use Rattle.lq_db.proofs.AloneLeft.{closed_same}
 use Rattle.lq_db.proofs.Commits.{failed, run_more, state}

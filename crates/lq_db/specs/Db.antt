@@ -1,29 +1,86 @@
--- What a database in a journal holds.
-use Rattle.std.specs.Prelude.{◌≡◌, Bool, cond, unwrap_or, false, true, zero, IfSome, List, None, Option, Some, [], length, ◌<◌, ◌++◌, ◌∷◌, Result, Ok, Err, ℕ}
-use Rattle.std.specs.Option.{option_map}
+-- The last text of a journal.
+use Rattle.std.specs.List.{last_or}
+use Rattle.std.specs.Option.{option_map, option_or}
+use Rattle.std.specs.Prelude.{Bool, Err, IfSome, List, None, Ok, Option, Result, Some, [], cond, false, length, true, unwrap_or, zero, ℕ, ◌++◌, ◌<◌, ◌∷◌, ◌≡◌}
 use Rattle.lq_base.specs.declared.dialect.Dialect.{Dialect}
 use Rattle.lq_base.specs.declared.reason.Reason.{Reason}
 use Rattle.lq_base.specs.declared.tracking.Lock.{Lock}
-use Rattle.lq_codec.specs.Database.{bytes_of}
 use Rattle.lq_codec.specs.State.{state_of}
-use Rattle.lq_db.specs.Last.{TellLast}
-use Rattle.lq_db.specs.Lock.{IsLockOf}
-use Rattle.lq_entries.specs.Log.{IsWhole, crashes_in, entries_in}
+use Rattle.lq_codec.specs.Tables.{bytes_of}
 use Rattle.lq_db.specs.declared.db.Db.{Db}
-use Rattle.lq_session.specs.Session.{begun_in, lock_in, texts_in}
-use Rattle.lq_session.specs.declared.open.Open.{Open}
-use Rattle.lq_store.specs.Executor.{Held, kept}
+use Rattle.lq_db.specs.declared.last_texts.LastTexts.{LastTexts}
+use Rattle.lq_entries.specs.Log.{IsWhole, crashes_in, entries_in}
 use Rattle.lq_journal.specs.State.{dialect_of, disk_of, limit_of, used_of}
 use Rattle.lq_journal.specs.declared.journal.Journal.{Journal}
 use Rattle.lq_model.specs.Catalogue.{Catalogue}
 use Rattle.lq_model.specs.Sound.{IsSound}
 use Rattle.lq_model.specs.declared.fault.StoreFault.{StoreFault}
-use Rattle.lq_model.specs.declared.fault.StoreFault.TheVariants.{Refused, Disk, OutOfMemory}
+use Rattle.lq_model.specs.declared.fault.StoreFault.TheVariants.{Disk, OutOfMemory, Refused}
 use Rattle.lq_outside.specs.Crash.{Crashes as DiskCrashes}
+use Rattle.lq_session.specs.Session.{begun_in, lock_in, texts_in}
+use Rattle.lq_session.specs.declared.open.Open.{Open}
 use Rattle.lq_store.specs.Calls.{ends_in_texts, stated}
-use Rattle.lq_store.specs.Crashes.{Crashes}
-use Rattle.lq_store.specs.Journal.{Entry, database, run_texts}
-use Rattle.lq_store.specs.State.{State, Transaction}
+use Rattle.lq_store.specs.Executor.{Held, kept}
+use Rattle.lq_store.specs.Journal.{Crashes, Entry, IsStore, State, Transaction, database, run_texts}
+use Rattle.lq_store.specs.Journal.Entry.{Stated, Texts}
+use Rattle.lq_track.specs.Database.{lock_of}
+
+-- the last text after entries, where it was so before them: none stands behind a state until texts do
+abbrev pub last_after : Option (List ℕ) → List Entry → Option (List ℕ)
+last_after last [] = last
+last_after last (Texts texts ∷ entries) = last_after (last_or last texts) entries
+last_after last (Stated bytes ∷ entries) = last_after None entries
+
+-- the last text of the entries behind the last state, of which each has a text: none where nothing stands behind it
+abbrev pub last_text : List Entry → Option (List ℕ)
+last_text entries = last_after None entries
+
+-- what the calls leave
+
+abbrev pub with_text : List ℕ → LastTexts → LastTexts
+with_text text t = record t { waiting = Some text }
+
+abbrev pub with_all : LastTexts → LastTexts
+with_all t = record { in_journal = option_or t.waiting t.in_journal; waiting = None }
+
+abbrev pub with_entry : List ℕ → LastTexts
+with_entry text = record { in_journal = Some text; waiting = None }
+
+abbrev pub with_last : Option (List ℕ) → LastTexts → LastTexts
+with_last last t = record t { in_journal = option_or last t.in_journal }
+
+abbrev pub after_taken : Result ℕ StoreFault → List ℕ → LastTexts → LastTexts
+after_taken (Ok n) text t = with_text text t
+after_taken (Err fault) text t = t
+
+-- one that is refused has committed what was before it
+abbrev pub after_itself : Result ℕ StoreFault → List ℕ → LastTexts → LastTexts
+after_itself (Ok n) text t = with_entry text
+after_itself (Err (Refused reason)) text t = with_all t
+after_itself (Err _) text t = t
+
+-- behind a state that was written no text stands
+abbrev pub after_state : Result ℕ StoreFault → LastTexts → LastTexts
+after_state (Ok n) t = record t { in_journal = None }
+after_state (Err fault) t = t
+
+-- they are those of these entries, and of these texts behind them
+pub record AreLast (entries : List Entry) (texts : List (List ℕ)) (t : LastTexts) : Type 0 where
+  pub in_journal : t.in_journal ≡ last_text entries
+  pub waiting : t.waiting ≡ last_or None texts
+
+-- they are those of a journal, where it is told, and of the transaction that is open, if one is
+pub record TellLast (entries : Option (List Entry)) (begun : Option Open) (t : LastTexts) : Type 0 where
+  pub in_journal : IfSome entries (λ there. t.in_journal ≡ last_text there)
+  pub waiting : IfSome begun (λ b. t.waiting ≡ last_or None (texts_in b.entry))
+
+-- How what reads the lock answers.
+
+-- the lock, where the catalogue has one that can be read
+abbrev pub IsLockOf : Dialect → Catalogue → Lock → Type 0
+IsLockOf d c lock = IfSome (lock_of d c) (λ meant. lock ≡ meant)
+
+-- What a database in a journal holds.
 
 abbrev pub disk_in : {D P E : Type 0} → Db D P E → D
 disk_in db = disk_of db.journal
@@ -122,3 +179,12 @@ pub record HasState (x : State) : Type 0 where
 -- what a snapshot writes: a state, where a transaction stands behind the last one
 abbrev pub snapshot_entries : State → List Entry
 snapshot_entries x = cond (unwrap_or (option_map ends_in_texts x.entries) false) (stated x.committed) []
+
+-- That a database as its calls leave it is a store.
+
+now_sound : (d : Dialect) (h : Held) (begun : Option Open) → IsSound d h.now → IfSome (begun_in h begun) (λ t. IsSound d t.now)
+now_sound d h None sound = tt
+now_sound d h (Some t) sound = sound
+
+pub is_store : {D P E : Type 0} {d : Dialect} {told : Option (List ℕ)} {disk : DiskCrashes} {h : Held} (db : Db D P E) → IsDb d told disk h db → IsStore (state told h db)
+is_store {h = h} db is = record { is_journal = is.is_held.is_journal; sound = is.is_held.sound; sound_now = now_sound db.dialect h db.begun is.is_held.sound_now }

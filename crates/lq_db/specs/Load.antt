@@ -1,10 +1,10 @@
 -- Why a database was not loaded.
-use Rattle.std.specs.Prelude.{◌≡◌, IfSome, List, Option, Err, ℕ}
+use Rattle.std.specs.Prelude.{Err, IfSome, List, Option, ℕ, ◌≡◌}
 use Rattle.lq_base.specs.declared.dialect.Dialect.{Dialect}
 use Rattle.lq_entries.specs.Load.{catalogue_of}
 use Rattle.lq_journal.specs.declared.fault.LoadFault.{LoadFault}
-use Rattle.lq_journal.specs.declared.fault.LoadFault.TheVariants.{Disk, Damaged, OutOfMemory}
-use Rattle.lq_outside.specs.Count.{Rose}
+use Rattle.lq_journal.specs.declared.fault.LoadFault.TheVariants.{Damaged, Disk, OutOfMemory}
+use Rattle.lq_outside.specs.Forms.{Rose}
 
 -- the disk's count of faults rose, or what the disk tells, if it does, is damaged at that very place, or want of memory
 abbrev pub IsDbFault : Dialect → ℕ → Option (List ℕ) → ℕ → ℕ → LoadFault → Type 0

@@ -1,12 +1,11 @@
 ghost use Rattle.std.specs.Option.{option_copied};
 ghost use Rattle.std.specs.Prelude.{◌≡◌, ◌≤◌, IfOk, IfErr, IfSome, IsTrue, MatchResult, None, Ok, false, true};
-ghost use Rattle.lq_db.specs.Db.{lives};
-ghost use Rattle.lq_db.specs.Last.{last_text};
+ghost use Rattle.lq_db.specs.Db.{lives, last_text};
 ghost use Rattle.lq_db.specs.Load.{IsDbFault};
 ghost use Rattle.lq_entries.specs.Load.{catalogue_of, is_clean};
 ghost use Rattle.lq_outside.specs.Crash.{LeavesOnly};
 ghost use Rattle.lq_store.specs.Calls.{CountsDisk, MaySnapshot};
-ghost use Rattle.lq_store.specs.Crashes.{LeavesFront};
+ghost use Rattle.lq_store.specs.Journal.{LeavesFront};
 ghost use Rattle.lq_store.specs.Executor.{kept};
 
 use crate::alone::prepare;
@@ -187,8 +186,7 @@ fn note(live: &mut bool, done: Result<u64, StoreFault>) -> Result<u64, StoreFaul
 }
 
 impl<D: Disk, P: SqlText + Drop, E: Executor + Drop> Store for Db<D, P, E> {
-    ghost use Rattle.lq_db.specs.Db.{IsValid, crashes, disk_in, engine_in, state};
-    ghost use Rattle.lq_db.specs.Sound.{is_store};
+    ghost use Rattle.lq_db.specs.Db.{IsValid, crashes, disk_in, engine_in, state, is_store};
 
     type View = E;
 

@@ -1,12 +1,11 @@
 ghost use Rattle.std.specs.Prelude.{◌≡◌, ◌≤◌, ◌++◌, ◌∷◌, [], true, Err, IfOk};
-ghost use Rattle.lq_db.specs.Itself.{MayKeep, MayRunItself, itself_entries};
-ghost use Rattle.lq_db.specs.Lock.{IsLockOf};
+ghost use Rattle.lq_db.specs.Alone.{MayKeep, MayRunItself, itself_entries};
+ghost use Rattle.lq_db.specs.Db.{IsLockOf};
 ghost use Rattle.lq_entries.specs.Log.{IsWhole, UnlessFailed, crashes_in, entries_of, log_of};
 ghost use Rattle.lq_journal.specs.State.{dialect_of, disk_of, limit_of};
-ghost use Rattle.lq_model.specs.Statement.{is_statement};
-ghost use Rattle.lq_model.specs.Step.{step};
-ghost use Rattle.lq_outside.specs.Count.{Rose};
-ghost use Rattle.lq_store.specs.Crashes.{LeavesFront};
+ghost use Rattle.lq_model.specs.Step.{is_statement, step};
+ghost use Rattle.lq_outside.specs.Forms.{Rose};
+ghost use Rattle.lq_store.specs.Journal.{LeavesFront};
 ghost use Rattle.lq_store.specs.Journal.Entry.{Texts};
 ghost use Rattle.lq_session.specs.Session.{side};
 

@@ -1,5 +1,5 @@
 ghost use Rattle.std.specs.Prelude.{◌≡◌, is_some, map};
-ghost use Rattle.lq_db.specs.Last.{after_itself, after_state, after_taken, last_text, with_all, with_entry, with_last, with_text};
+ghost use Rattle.lq_db.specs.Db.{after_itself, after_state, after_taken, last_text, with_all, with_entry, with_last, with_text};
 ghost use Rattle.lq_entries.specs.Log.{unplaced};
 
 use lq_base::{Items, Text};

@@ -1,5 +1,5 @@
 ghost use Rattle.std.specs.Prelude.{◌≡◌, IfOk};
-ghost use Rattle.lq_db.specs.Lock.{IsLockOf};
+ghost use Rattle.lq_db.specs.Db.{IsLockOf};
 
 use lq_base::{Dialect, Lock, NoMemory};
 use lq_store::Executor;

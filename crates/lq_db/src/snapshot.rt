@@ -1,14 +1,13 @@
 ghost use Rattle.std.specs.Prelude.{◌≡◌, ◌≤◌, Err, IfOk, OnOk, Some};
-ghost use Rattle.lq_codec.specs.Database.{bytes_of};
+ghost use Rattle.lq_codec.specs.Tables.{bytes_of};
 ghost use Rattle.lq_codec.specs.State.{state_of};
 ghost use Rattle.lq_entries.specs.Log.{IsWhole, MayWrite, UnlessFailed, crashes_in, log_of};
 ghost use Rattle.lq_journal.specs.State.{dialect_of, disk_of, limit_of};
 ghost use Rattle.lq_model.specs.Sound.{IsSound};
 ghost use Rattle.lq_model.specs.declared.caller.Room.TheVariants.{Ordinary};
-ghost use Rattle.lq_outside.specs.Count.{Rose};
+ghost use Rattle.lq_outside.specs.Forms.{Rose};
 ghost use Rattle.lq_store.specs.Calls.{stated};
-ghost use Rattle.lq_store.specs.Crashes.{LeavesFront};
-ghost use Rattle.lq_store.specs.Journal.{size_of_all};
+ghost use Rattle.lq_store.specs.Journal.{LeavesFront, size_of_all};
 
 use lq_base::NoMemory;
 use lq_entries::append_one;

@@ -1,9 +1,7 @@
 ghost use Rattle.std.specs.Prelude.{◌≡◌, ◌<◌, ◌++◌, ◌∷◌, [], true, IfSome, OnOk, OnErr, length};
 ghost use Rattle.lq_db.specs.Db.{IsAdded, MayTake};
 ghost use Rattle.lq_session.specs.Session.{texts_in};
-ghost use Rattle.lq_model.specs.Commits.{commits_itself};
-ghost use Rattle.lq_model.specs.Statement.{is_statement};
-ghost use Rattle.lq_model.specs.Step.{step};
+ghost use Rattle.lq_model.specs.Step.{commits_itself, is_statement, step};
 
 use crate::locking::lock_now;
 use lq_base::{Dialect, NoMemory};

@@ -8,22 +8,17 @@ use Rattle.lq_base.specs.declared.dialect.Dialect.{Dialect}
 use Rattle.lq_base.specs.declared.kind.Kind.{Kind}
 use Rattle.lq_base.specs.declared.literal.Literal.{Literal}
 use Rattle.lq_base.specs.declared.name.Name.{Name}
-use Rattle.lq_model.specs.Catalogue.{Catalogue, Table, table_of, the_table, with_table}
-use Rattle.lq_model.specs.ChangeColumn.{changed_at, drop_default, drop_not_null, made_nullable, modified, modify, set_default, set_not_null, with_changed, with_default}
-use Rattle.lq_model.specs.Kinds.{kind_in}
-use Rattle.lq_model.specs.Literals.{value_in}
-use Rattle.lq_model.specs.Plan.{decide}
-use Rattle.lq_model.specs.ResultTests.{is_loose}
-use Rattle.lq_model.specs.Row.{has_bad_null, picked}
+use Rattle.lq_model.specs.Catalogue.{Catalogue, Table, table_of, the_table, with_table, has_bad_null, picked, has_column}
+use Rattle.lq_model.specs.Tables.{changed_at, drop_default, drop_not_null, made_nullable, modified, modify, set_default, set_not_null, with_changed, with_default}
+use Rattle.lq_model.specs.Kinds.{kind_in, value_in}
+use Rattle.lq_model.specs.Plan.{decide, is_loose}
 use Rattle.lq_model.specs.Sound.{IsSound}
-use Rattle.lq_model.specs.TableNames.{has_column}
 use Rattle.lq_model.specs.declared.caller.By.{By}
 use Rattle.lq_model.specs.declared.column.Column.{Column}
 use Rattle.lq_model.proofs.Between.{name_kept}
 use Rattle.lq_model.proofs.Decide.{here}
 use Rattle.lq_model.proofs.Lists.{and_true, any_less, map_same, not_false, or_false, or_left, or_right, other_way, true_false, whether}
-use Rattle.lq_decide.specs.Faults.{has_null_in, modify_faults, no_faults, set_not_null_faults}
-use Rattle.lq_decide.specs.Judged.{judged}
+use Rattle.lq_decide.specs.Faults.{has_null_in, modify_faults, no_faults, set_not_null_faults, judged}
 use Rattle.lq_decide.proofs.Judge.{IsFound, judge}
 use Rattle.lq_decide.proofs.Nulls.{by_name_stays, nulls_less, rows_null}
 use Rattle.lq_decide.proofs.OneTable.{none_loose, old_nulls, picks}

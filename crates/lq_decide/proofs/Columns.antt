@@ -7,15 +7,11 @@ use Rattle.lq_base.specs.Value.{is_value_of}
 use Rattle.lq_base.specs.declared.dialect.Dialect.{Dialect}
 use Rattle.lq_base.specs.declared.name.Name.{Name}
 use Rattle.lq_base.specs.declared.value.Value.{Value}
-use Rattle.lq_model.specs.Catalogue.{Catalogue, Table, the_table}
-use Rattle.lq_model.specs.Columns.{add_column, columns_without, drop_column, is_only, row_without, with_column, without_column}
-use Rattle.lq_model.specs.Literals.{column_of, default_value}
-use Rattle.lq_model.specs.Names.{is_empty, is_in}
-use Rattle.lq_model.specs.Needs.{is_aimed, is_bound, is_in_foreign, is_shown}
+use Rattle.lq_model.specs.Catalogue.{Catalogue, Table, the_table, is_empty, is_in, by_name, has_bad_null, is_null, picked, row_fits, column_lists, has_column}
+use Rattle.lq_model.specs.Tables.{add_column, columns_without, drop_column, is_only, row_without, with_column, without_column, is_aimed, is_bound, is_in_foreign, is_shown}
+use Rattle.lq_model.specs.Kinds.{column_of, default_value}
 use Rattle.lq_model.specs.Plan.{decide}
-use Rattle.lq_model.specs.Row.{by_name, has_bad_null, is_null, picked, row_fits}
 use Rattle.lq_model.specs.Sound.{IsSound}
-use Rattle.lq_model.specs.TableNames.{column_lists, has_column}
 use Rattle.lq_model.specs.declared.caller.By.{By}
 use Rattle.lq_model.specs.declared.column.Column.{Column}
 use Rattle.lq_model.specs.declared.column.ColumnDef.{ColumnDef}
@@ -23,8 +19,7 @@ use Rattle.lq_model.proofs.Decide.{here}
 use Rattle.lq_model.proofs.Kept.{not_so_true}
 use Rattle.lq_model.proofs.Lists.{and_right, any-map, any_less, not_false, or_false, or_left, or_right, other_way, same_name, true_false, whether}
 use Rattle.lq_model.proofs.Untouched.{not_in_lists, unused}
-use Rattle.lq_decide.specs.Faults.{add_column_faults, no_faults}
-use Rattle.lq_decide.specs.Judged.{judged}
+use Rattle.lq_decide.specs.Faults.{add_column_faults, no_faults, judged}
 use Rattle.lq_decide.proofs.Judge.{judge}
 use Rattle.lq_decide.proofs.Lists.{or-false}
 use Rattle.lq_decide.proofs.Nulls.{any_agree_all}

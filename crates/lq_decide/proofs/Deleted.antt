@@ -8,14 +8,10 @@ use Rattle.lq_base.specs.Name.{is_named}
 use Rattle.lq_base.specs.declared.dialect.Dialect.{Dialect}
 use Rattle.lq_base.specs.declared.name.Name.{Name}
 use Rattle.lq_base.specs.declared.value.Value.{Value}
-use Rattle.lq_model.specs.Catalogue.{Catalogue, Table, no_table, table_of, the_table, with_table}
-use Rattle.lq_model.specs.Delete.{cascaded, delete, deleted, is_lost, row_count, without_lost, without_lost_in, without_taken}
-use Rattle.lq_model.specs.Names.{same_names}
-use Rattle.lq_model.specs.Plan.{decide}
-use Rattle.lq_model.specs.ResultTests.{has_null, has_twins, is_full, is_loose, is_overfull, misses_target, most_rows, table_has_null, table_has_twins, unique_lists}
-use Rattle.lq_model.specs.Row.{has_bad_null, has_equals, picked, same_values}
+use Rattle.lq_model.specs.Catalogue.{Catalogue, Table, no_table, table_of, the_table, with_table, same_names, has_bad_null, has_equals, picked, same_values, target_lists}
+use Rattle.lq_model.specs.Rows.{cascaded, delete, deleted, is_lost, row_count, without_lost, without_lost_in, without_taken}
+use Rattle.lq_model.specs.Plan.{decide, has_null, has_twins, is_full, is_loose, is_overfull, misses_target, most_rows, table_has_null, table_has_twins, unique_lists}
 use Rattle.lq_model.specs.Sound.{IsSound}
-use Rattle.lq_model.specs.TableNames.{target_lists}
 use Rattle.lq_model.specs.Truth.{takes}
 use Rattle.lq_model.specs.declared.caller.By.{By}
 use Rattle.lq_model.specs.declared.test.Test.{Test}
@@ -24,8 +20,7 @@ use Rattle.lq_model.proofs.DropKeeps.{any_filtered}
 use Rattle.lq_model.proofs.Kept.{never}
 use Rattle.lq_model.proofs.Lists.{any-map, any_less, any_same, not_false, or_false, or_left, or_right}
 use Rattle.lq_model.proofs.Maps.{lookup-values}
-use Rattle.lq_decide.specs.Faults.{delete_faults}
-use Rattle.lq_decide.specs.Judged.{judged}
+use Rattle.lq_decide.specs.Faults.{delete_faults, judged}
 use Rattle.lq_decide.proofs.Judge.{judge}
 use Rattle.lq_decide.proofs.OneTable.{full_is, none_loose, nulls_are, old_nulls, old_size, old_twins, twins_are}
 

@@ -8,14 +8,10 @@ use Rattle.lq_base.specs.declared.dialect.Dialect.{Dialect}
 use Rattle.lq_base.specs.declared.literal.Literal.{Literal}
 use Rattle.lq_base.specs.declared.name.Name.{Name}
 use Rattle.lq_base.specs.declared.value.Value.{Value}
-use Rattle.lq_model.specs.Catalogue.{Catalogue, Table, no_table, table_of, the_table, with_table}
-use Rattle.lq_model.specs.Insert.{insert, next_of, stated, row_of}
-use Rattle.lq_model.specs.Literals.{value_in}
-use Rattle.lq_model.specs.Names.{same_names}
-use Rattle.lq_model.specs.TableNames.{target_lists}
-use Rattle.lq_model.specs.Plan.{decide, lacks_parents, leaves_children}
-use Rattle.lq_model.specs.ResultTests.{has_null, has_orphan, has_twins, is_full, is_loose, is_overfull, lacks_parent, misses_target, most_rows, table_has_null, table_has_twins, unique_lists}
-use Rattle.lq_model.specs.Row.{has_bad_null, has_equals, is_null, picked, same_values}
+use Rattle.lq_model.specs.Catalogue.{Catalogue, Table, no_table, table_of, the_table, with_table, same_names, target_lists, has_bad_null, has_equals, is_null, picked, same_values}
+use Rattle.lq_model.specs.Rows.{insert, next_of, stated, row_of}
+use Rattle.lq_model.specs.Kinds.{value_in}
+use Rattle.lq_model.specs.Plan.{decide, lacks_parents, leaves_children, has_null, has_orphan, has_twins, is_full, is_loose, is_overfull, lacks_parent, misses_target, most_rows, table_has_null, table_has_twins, unique_lists, is_twin}
 use Rattle.lq_model.specs.Sound.{IsSound}
 use Rattle.lq_model.specs.declared.column.Column.{Column}
 use Rattle.lq_model.specs.declared.constraint.ForeignKey.{ForeignKey}
@@ -24,9 +20,7 @@ use Rattle.lq_model.proofs.Kept.{lookup_other, the_table-with_table}
 use Rattle.lq_model.proofs.Lists.{or_left, same_name, any-append, any_less, any_same, map_append_one, whether}
 use Rattle.lq_model.proofs.Maps.{any-set_value, any_local, at_lookup}
 use Rattle.lq_model.specs.declared.caller.By.{By}
-use Rattle.lq_decide.specs.InsertFaults.{insert_faults, is_orphan, lacks_parent_of}
-use Rattle.lq_model.specs.Twin.{is_twin}
-use Rattle.lq_decide.specs.Judged.{judged}
+use Rattle.lq_decide.specs.Faults.{insert_faults, is_orphan, lacks_parent_of, judged}
 use Rattle.lq_decide.proofs.Judge.{judge}
 use Rattle.lq_decide.proofs.Lists.{any_last, at_key, at_others, or-false}
 

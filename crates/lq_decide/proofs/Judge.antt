@@ -1,14 +1,11 @@
 -- How a plan is judged.
 use Rattle.std.specs.Prelude.{Bool, List, false, not, refl, ◌≡◌}
 use Rattle.lq_base.specs.declared.name.Name.{Name}
-use Rattle.lq_model.specs.Catalogue.{Catalogue}
-use Rattle.lq_model.specs.Names.{is_in}
-use Rattle.lq_model.specs.Plan.{Plan, decide, lacks_parents, leaves_children}
-use Rattle.lq_model.specs.ResultTests.{has_null, has_orphan, has_orphans, has_twins, is_loose, is_overfull}
+use Rattle.lq_model.specs.Catalogue.{Catalogue, is_in}
+use Rattle.lq_model.specs.Plan.{Plan, decide, lacks_parents, leaves_children, has_null, has_orphan, has_orphans, has_twins, is_loose, is_overfull}
 use Rattle.lq_model.proofs.Decide.{IsFree}
 use Rattle.lq_model.proofs.Lists.{and_no_right, any_less, whether}
-use Rattle.lq_decide.specs.Faults.{Faults, no_faults}
-use Rattle.lq_decide.specs.Judged.{judged}
+use Rattle.lq_decide.specs.Faults.{Faults, no_faults, judged}
 
 -- what stands before the test of foreign keys is not against the plan
 pub record IsOpen (p : Plan) : Type 0 where

@@ -5,16 +5,11 @@ use Rattle.std.specs.Prelude.{Bool, List, None, Option, Some, [], cond, false, i
 use Rattle.lq_base.specs.Name.{is_named}
 use Rattle.lq_base.specs.declared.dialect.Dialect.{Dialect}
 use Rattle.lq_base.specs.declared.name.Name.{Name}
-use Rattle.lq_model.specs.AddConstraint.{add_foreign_key, add_primary_key, add_unique, create_index, with_foreign, with_index, with_key, with_unique}
-use Rattle.lq_model.specs.Catalogue.{Catalogue, Table, table_of, the_table, with_table}
-use Rattle.lq_model.specs.CreateTable.{key_column}
-use Rattle.lq_model.specs.DropConstraint.{drop_constraint, drop_foreign_key, drop_index, drop_primary_key, drop_unique, uniques_without, without_constraint, without_foreign, without_index, without_its_key, without_key, without_unique}
-use Rattle.lq_model.specs.Names.{is_in, same_names}
-use Rattle.lq_model.specs.Plan.{decide}
-use Rattle.lq_model.specs.ResultTests.{lacks_parent, misses_target, table_has_twins, unique_lists}
-use Rattle.lq_model.specs.Row.{picked}
+use Rattle.lq_model.specs.Constraints.{add_foreign_key, add_primary_key, add_unique, create_index, with_foreign, with_index, with_key, with_unique, drop_constraint, drop_foreign_key, drop_index, drop_primary_key, drop_unique, uniques_without, without_constraint, without_foreign, without_index, without_its_key, without_key, without_unique}
+use Rattle.lq_model.specs.Catalogue.{Catalogue, Table, table_of, the_table, with_table, is_in, same_names, picked, has_column, key_list, target_lists}
+use Rattle.lq_model.specs.Tables.{key_column}
+use Rattle.lq_model.specs.Plan.{decide, lacks_parent, misses_target, table_has_twins, unique_lists}
 use Rattle.lq_model.specs.Sound.{IsSound}
-use Rattle.lq_model.specs.TableNames.{has_column, key_list, target_lists}
 use Rattle.lq_model.specs.declared.caller.By.{By}
 use Rattle.lq_model.specs.declared.column.Column.{Column}
 use Rattle.lq_model.specs.declared.constraint.ForeignKey.{ForeignKey}
@@ -26,8 +21,7 @@ use Rattle.lq_model.proofs.Decide.{here}
 use Rattle.lq_model.proofs.DropKeeps.{any_filtered}
 use Rattle.lq_model.proofs.Kept.{and_never, never, nothing_touched}
 use Rattle.lq_model.proofs.Lists.{all_none, any-append, any-map, any_less, append-nil, filter-append, map_append_one, map_same, or_false, or_left, or_right, true_false, whether}
-use Rattle.lq_decide.specs.Faults.{add_foreign_key_faults, add_primary_key_faults, add_unique_faults, are_twins, create_index_faults, less_faults, no_faults}
-use Rattle.lq_decide.specs.Judged.{judged}
+use Rattle.lq_decide.specs.Faults.{add_foreign_key_faults, add_primary_key_faults, add_unique_faults, are_twins, create_index_faults, less_faults, no_faults, judged}
 use Rattle.lq_decide.proofs.Judge.{judge}
 use Rattle.lq_decide.proofs.Lists.{any_last, or-false}
 use Rattle.lq_decide.proofs.Nulls.{by_name_stays, rows_null}

@@ -6,7 +6,7 @@ use Rattle.std.specs.Map.{lookup, set_value}
 use Rattle.std.specs.Prelude.{Bool, List, Some, T, [], cond, false, is_some, not, refl, true, ◌&&◌, ◌++◌, ◌||◌, ◌∷◌, ◌≡◌}
 use Rattle.lq_base.specs.Name.{is_named, name_cmp}
 use Rattle.lq_base.specs.declared.name.Name.{Name}
-use Rattle.lq_model.specs.Names.{is_in}
+use Rattle.lq_model.specs.Catalogue.{is_in}
 use Rattle.lq_model.proofs.Kept.{and_never}
 use Rattle.lq_model.proofs.Lists.{and_no_right, any-append, any-map, any_less, named_itself, or_left, or_right, same_name, true_false, whether}
 use Rattle.lq_model.proofs.Maps.{below_gone, found, not_some}

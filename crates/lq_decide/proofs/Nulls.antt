@@ -6,8 +6,7 @@ use Rattle.lq_base.specs.Name.{is_named}
 use Rattle.lq_base.specs.Value.{is_value_of}
 use Rattle.lq_base.specs.declared.name.Name.{Name}
 use Rattle.lq_base.specs.declared.value.Value.{Value}
-use Rattle.lq_model.specs.Names.{is_in, repeats}
-use Rattle.lq_model.specs.Row.{by_name, has_bad_null, is_null, picked, row_fits}
+use Rattle.lq_model.specs.Catalogue.{is_in, repeats, by_name, has_bad_null, is_null, picked, row_fits}
 use Rattle.lq_model.specs.declared.column.Column.{Column}
 use Rattle.lq_model.proofs.Lists.{all_both, all_more, and_left, and_no_right, and_right, and_true, any-map, any_none, named_itself, or_false, or_left, or_right, same_name, true_false, whether}
 use Rattle.lq_decide.proofs.Lists.{same_test}

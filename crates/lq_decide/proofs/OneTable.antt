@@ -6,13 +6,9 @@ use Rattle.lq_base.specs.Name.{is_named}
 use Rattle.lq_base.specs.declared.dialect.Dialect.{Dialect}
 use Rattle.lq_base.specs.declared.name.Name.{Name}
 use Rattle.lq_base.specs.declared.value.Value.{Value}
-use Rattle.lq_model.specs.Catalogue.{Catalogue, Table, no_table, table_of, the_table, with_table}
-use Rattle.lq_model.specs.Names.{same_names}
-use Rattle.lq_model.specs.Plan.{lacks_parents, leaves_children}
-use Rattle.lq_model.specs.ResultTests.{has_null, has_orphan, has_twins, is_full, is_loose, is_overfull, lacks_parent, misses_target, most_rows, table_has_null, table_has_twins}
-use Rattle.lq_model.specs.Row.{is_null, picked, same_values}
+use Rattle.lq_model.specs.Catalogue.{Catalogue, Table, no_table, table_of, the_table, with_table, same_names, is_null, picked, same_values, target_lists}
+use Rattle.lq_model.specs.Plan.{lacks_parents, leaves_children, has_null, has_orphan, has_twins, is_full, is_loose, is_overfull, lacks_parent, misses_target, most_rows, table_has_null, table_has_twins}
 use Rattle.lq_model.specs.Sound.{IsSound}
-use Rattle.lq_model.specs.TableNames.{target_lists}
 use Rattle.lq_model.specs.declared.constraint.ForeignKey.{ForeignKey}
 use Rattle.lq_model.proofs.Kept.{lookup_other, the_table-with_table}
 use Rattle.lq_model.proofs.Lists.{any-map, any_less, any_less_both, any_same, not_false, not_true, or_false, or_left, or_right, same_name, whether}

@@ -9,14 +9,10 @@ use Rattle.lq_base.specs.Name.{is_named, name_cmp}
 use Rattle.lq_base.specs.declared.dialect.Dialect.{Dialect}
 use Rattle.lq_base.specs.declared.name.Name.{Name}
 use Rattle.lq_base.specs.declared.value.Value.{Value}
-use Rattle.lq_model.specs.Catalogue.{Catalogue, Table, no_table, table_of, the_table}
-use Rattle.lq_model.specs.Names.{is_in, renamed, same_names}
-use Rattle.lq_model.specs.Plan.{decide}
-use Rattle.lq_model.specs.RenameColumn.{name_at, names_at, rename_column, with_column_renamed}
-use Rattle.lq_model.specs.ResultTests.{has_orphan, is_full, is_loose, lacks_parent, misses_target, table_has_null, table_has_twins, unique_lists}
-use Rattle.lq_model.specs.Row.{by_name, has_bad_null, has_equals, is_null, picked, same_values}
+use Rattle.lq_model.specs.Catalogue.{Catalogue, Table, no_table, table_of, the_table, is_in, renamed, same_names, by_name, has_bad_null, has_equals, is_null, picked, same_values, has_column, key_list, target_lists}
+use Rattle.lq_model.specs.Plan.{decide, has_orphan, is_full, is_loose, lacks_parent, misses_target, table_has_null, table_has_twins, unique_lists}
+use Rattle.lq_model.specs.Tables.{name_at, names_at, rename_column, with_column_renamed}
 use Rattle.lq_model.specs.Sound.{IsSound, IsSoundTable, are_columns}
-use Rattle.lq_model.specs.TableNames.{has_column, key_list, target_lists}
 use Rattle.lq_model.specs.declared.caller.By.{By}
 use Rattle.lq_model.specs.declared.column.Column.{Column}
 use Rattle.lq_model.specs.declared.constraint.ForeignKey.{ForeignKey}
@@ -29,8 +25,7 @@ use Rattle.lq_model.proofs.Kept.{never}
 use Rattle.lq_model.proofs.Lists.{and_true, any-map, any_less, any_less_both, any_none, any_same, map-map, map_same, named_itself, not_false, not_true, or_false, or_left, or_right, other_way, same_name, true_false, whether}
 use Rattle.lq_model.proofs.Maps.{below_gone, not_some, sorted_entries}
 use Rattle.lq_model.proofs.Untouched.{IsUntouched, aims, not_in_columns, not_in_lists, same_list, unused}
-use Rattle.lq_decide.specs.Faults.{no_faults}
-use Rattle.lq_decide.specs.Judged.{judged}
+use Rattle.lq_decide.specs.Faults.{no_faults, judged}
 use Rattle.lq_decide.proofs.Judge.{IsFound, judge, quiet_found}
 use Rattle.lq_decide.proofs.Nulls.{nulls_less}
 use Rattle.lq_decide.proofs.OneTable.{picks}

@@ -8,22 +8,16 @@ use Rattle.std.specs.Prelude.{Bool, None, Option, Some, [], cond, false, is_some
 use Rattle.lq_base.specs.Name.{is_named, name_cmp}
 use Rattle.lq_base.specs.declared.dialect.Dialect.{Dialect}
 use Rattle.lq_base.specs.declared.name.Name.{Name}
-use Rattle.lq_model.specs.Catalogue.{Catalogue, Table, no_table, table_of, the_table}
-use Rattle.lq_model.specs.Names.{renamed, same_names}
-use Rattle.lq_model.specs.Needs.{targets_table}
-use Rattle.lq_model.specs.Plan.{decide}
-use Rattle.lq_model.specs.Rename.{rename_table, retarget, retargeted, table_renamed, view_renamed}
-use Rattle.lq_model.specs.ResultTests.{is_full, is_loose, lacks_parent, misses_target, table_has_null, table_has_twins}
-use Rattle.lq_model.specs.Row.{picked}
+use Rattle.lq_model.specs.Catalogue.{Catalogue, Table, no_table, table_of, the_table, renamed, same_names, picked, target_lists}
+use Rattle.lq_model.specs.Tables.{targets_table, rename_table, retarget, retargeted, table_renamed, view_renamed}
+use Rattle.lq_model.specs.Plan.{decide, is_full, is_loose, lacks_parent, misses_target, table_has_null, table_has_twins}
 use Rattle.lq_model.specs.Sound.{IsSound}
-use Rattle.lq_model.specs.TableNames.{target_lists}
 use Rattle.lq_model.specs.declared.caller.By.{By}
 use Rattle.lq_model.specs.declared.constraint.ForeignKey.{ForeignKey}
 use Rattle.lq_model.proofs.Absent.{free_of, untargeted}
 use Rattle.lq_model.proofs.Lists.{any-map, any_less, any_less_both, any_same, named_itself, or_false, or_left, or_right, other_way, same_name, whether}
 use Rattle.lq_model.proofs.Maps.{any_none-remove_entry, at_lookup, lookup-insert_entry, lookup-remove_entry, lookup-values, sorted_entries}
-use Rattle.lq_decide.specs.Faults.{no_faults}
-use Rattle.lq_decide.specs.Judged.{judged}
+use Rattle.lq_decide.specs.Faults.{no_faults, judged}
 use Rattle.lq_decide.proofs.Judge.{IsFound, judge, quiet_found}
 use Rattle.lq_decide.proofs.Tables.{any_inserted, lacks_at}
 use Rattle.lq_decide.proofs.Views.{same_aimed, same_found, view_moved}

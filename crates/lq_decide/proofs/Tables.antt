@@ -10,17 +10,11 @@ use Rattle.lq_base.specs.Name.{beside, is_named, name_cmp}
 use Rattle.lq_base.specs.declared.dialect.Dialect.{Dialect}
 use Rattle.lq_base.specs.declared.name.Name.{Name}
 use Rattle.lq_base.specs.declared.value.Value.{Value}
-use Rattle.lq_model.specs.Catalogue.{Catalogue, Table, no_table, table_of, the_table, with_new, without_table}
-use Rattle.lq_model.specs.CreateTable.{create_table, new_table}
-use Rattle.lq_model.specs.DropConstraint.{drop_index, without_index_in}
-use Rattle.lq_model.specs.DropTable.{drop_table}
-use Rattle.lq_model.specs.Names.{same_names}
-use Rattle.lq_model.specs.Needs.{is_targeted, is_viewed, targets_table}
-use Rattle.lq_model.specs.Plan.{decide}
-use Rattle.lq_model.specs.ResultTests.{has_orphan, is_full, is_loose, lacks_parent, misses_target, table_has_null, table_has_twins, unique_lists}
-use Rattle.lq_model.specs.Row.{has_bad_null, has_equals, is_null, picked, same_values}
+use Rattle.lq_model.specs.Catalogue.{Catalogue, Table, no_table, table_of, the_table, with_new, without_table, same_names, has_bad_null, has_equals, is_null, picked, same_values, key_list, target_lists}
+use Rattle.lq_model.specs.Tables.{create_table, new_table, drop_table, is_targeted, is_viewed, targets_table}
+use Rattle.lq_model.specs.Constraints.{drop_index, without_index_in}
+use Rattle.lq_model.specs.Plan.{decide, has_orphan, is_full, is_loose, lacks_parent, misses_target, table_has_null, table_has_twins, unique_lists}
 use Rattle.lq_model.specs.Sound.{IsSound}
-use Rattle.lq_model.specs.TableNames.{key_list, target_lists}
 use Rattle.lq_model.specs.declared.caller.By.{By}
 use Rattle.lq_model.specs.declared.column.ColumnDef.{ColumnDef}
 use Rattle.lq_model.specs.declared.constraint.ForeignKey.{ForeignKey}
@@ -31,8 +25,7 @@ use Rattle.lq_model.proofs.Entries.{lookup-entries}
 use Rattle.lq_model.proofs.Kept.{never}
 use Rattle.lq_model.proofs.Lists.{any-map, any_less, any_less_both, any_same, named_itself, or_left, or_right, other_way, same_name, whether}
 use Rattle.lq_model.proofs.Maps.{any_none-remove_entry, found, lookup-insert_entry, lookup-remove_entry, sorted_entries}
-use Rattle.lq_decide.specs.Faults.{create_table_faults, misses_new, no_faults}
-use Rattle.lq_decide.specs.Judged.{judged}
+use Rattle.lq_decide.specs.Faults.{create_table_faults, misses_new, no_faults, judged}
 use Rattle.lq_decide.proofs.Judge.{IsFound, judge, quiet_found}
 use Rattle.lq_decide.proofs.Keys.{index_less, lists_less}
 use Rattle.lq_decide.proofs.Lists.{or-false}

@@ -9,15 +9,12 @@ use Rattle.lq_base.specs.declared.dialect.Dialect.{Dialect}
 use Rattle.lq_base.specs.declared.literal.Literal.{Literal}
 use Rattle.lq_base.specs.declared.name.Name.{Name}
 use Rattle.lq_base.specs.declared.value.Value.{Value}
-use Rattle.lq_model.specs.Catalogue.{Catalogue, Table, table_of, the_table, with_table}
-use Rattle.lq_model.specs.Literals.{value_in}
-use Rattle.lq_model.specs.Names.{is_in}
-use Rattle.lq_model.specs.Plan.{decide, lacks_parents, leaves_children}
-use Rattle.lq_model.specs.ResultTests.{has_orphan, lacks_parent, table_has_twins, unique_lists}
-use Rattle.lq_model.specs.Row.{by_name, has_bad_null, has_equals, picked}
+use Rattle.lq_model.specs.Catalogue.{Catalogue, Table, table_of, the_table, with_table, is_in, by_name, has_bad_null, has_equals, picked}
+use Rattle.lq_model.specs.Kinds.{value_in}
+use Rattle.lq_model.specs.Plan.{decide, lacks_parents, leaves_children, has_orphan, lacks_parent, table_has_twins, unique_lists}
 use Rattle.lq_model.specs.Sound.{IsSound}
 use Rattle.lq_model.specs.Truth.{takes}
-use Rattle.lq_model.specs.Update.{edited, set_all, set_in, set_value_of, update}
+use Rattle.lq_model.specs.Rows.{edited, set_all, set_in, set_value_of, update}
 use Rattle.lq_model.specs.declared.caller.By.{By}
 use Rattle.lq_model.specs.declared.column.Column.{Column}
 use Rattle.lq_model.specs.declared.constraint.ForeignKey.{ForeignKey}
@@ -26,8 +23,7 @@ use Rattle.lq_model.proofs.Decide.{here}
 use Rattle.lq_model.proofs.Lists.{and_no_right, any-map, any_less, any_same, map-map, map_same, named_itself, or_left, or_right, other_way, same_name, whether}
 use Rattle.lq_model.proofs.Maps.{at_lookup, below_gone, found, not_some, sorted_entries}
 use Rattle.lq_model.proofs.Untouched.{aims}
-use Rattle.lq_decide.specs.Faults.{are_twins, meets, names_set, set_child, set_orphan, update_faults}
-use Rattle.lq_decide.specs.Judged.{judged}
+use Rattle.lq_decide.specs.Faults.{are_twins, meets, names_set, set_child, set_orphan, update_faults, judged}
 use Rattle.lq_decide.proofs.Judge.{judge}
 use Rattle.lq_decide.proofs.Lists.{any_agree, or-false}
 use Rattle.lq_decide.proofs.OneTable.{none_loose, nulls_are, old_nulls, old_twins, parentless, parents_stay, picks, same_size, twins_are}

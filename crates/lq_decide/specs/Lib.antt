@@ -1,4 +1,1 @@
-pub mod Decides
 pub mod Faults
-pub mod InsertFaults
-pub mod Judged

@@ -4,9 +4,9 @@ use Rattle.std.specs.Cmp.{eq_by_cmp_equiv}
 use Rattle.std.specs.List.{filter, list_any}
 use Rattle.std.specs.Prelude.{Bool, List, [], cond, false, map, not, refl, true, ◌&&◌, ◌||◌, ◌∷◌, ◌≡◌}
 use Rattle.lq_base.specs.declared.value.Value.{Value}
-use Rattle.lq_model.specs.Row.{has_equals, is_null, same_values}
+use Rattle.lq_model.specs.Catalogue.{has_equals, is_null, same_values}
 use Rattle.lq_model.proofs.Lists.{any-map, or_false, or_left, or_right, true_false, whether}
-use Rattle.lq_rows.specs.Order.{values_total}
+use Rattle.lq_rows.specs.Stored.{values_total}
 use Rattle.lq_rows.proofs.SeenLemmas.{null_differs, same_values_back}
 use Rattle.lq_deletes.proofs.Keyed.{values_equal}
 

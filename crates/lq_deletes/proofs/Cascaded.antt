@@ -6,15 +6,10 @@ use Rattle.std.specs.Prelude.{Bool, List, Option, Some, T, [], length, true, ℕ
 use Rattle.lq_base.specs.Name.{name_cmp}
 use Rattle.lq_base.specs.declared.name.Name.{Name}
 use Rattle.lq_model.specs.Catalogue.{Catalogue, table_of, the_table}
-use Rattle.lq_model.specs.Delete.{deleted}
+use Rattle.lq_model.specs.Rows.{deleted}
 use Rattle.lq_model.specs.declared.test.Test.{Test}
 use Rattle.lq_model.proofs.Maps.{sorted_entries}
-use Rattle.lq_deletes.specs.Gone.{AreGone, taken_in}
-use Rattle.lq_deletes.specs.Losses.{AreMarked, losses, with_thinned}
-use Rattle.lq_deletes.specs.Places.{Gains, tables_linked}
-use Rattle.lq_deletes.specs.Rows.{row_total}
-use Rattle.lq_deletes.specs.Spread.{Spread, are_below}
-use Rattle.lq_deletes.specs.Stay.{Choice, IsLinked, stays}
+use Rattle.lq_deletes.specs.Places.{AreGone, taken_in, AreMarked, losses, with_thinned, Gains, tables_linked, row_total, Spread, are_below, Choice, IsLinked, stays}
 use Rattle.lq_deletes.proofs.Cut.{cut_is}
 use Rattle.lq_deletes.proofs.Descent.{marks_gone}
 use Rattle.lq_deletes.proofs.Linked.{are_cascades, cascades_below, taken_marks, taken_total}

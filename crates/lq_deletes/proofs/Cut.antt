@@ -6,10 +6,7 @@ use Rattle.lq_base.specs.declared.name.Name.{Name}
 use Rattle.lq_base.specs.declared.value.Value.{Value}
 use Rattle.lq_model.specs.Catalogue.{Table}
 use Rattle.lq_model.proofs.Lists.{whether}
-use Rattle.lq_deletes.specs.Losses.{losses, lost_in}
-use Rattle.lq_deletes.specs.Rows.{Named, row_total, rows_in}
-use Rattle.lq_deletes.specs.Spread.{is_marked}
-use Rattle.lq_deletes.specs.Stay.{Choice}
+use Rattle.lq_deletes.specs.Places.{losses, lost_in, Named, row_total, rows_in, is_marked, Choice}
 use Rattle.lq_deletes.proofs.Descent.{named_rows}
 use Rattle.lq_deletes.proofs.Thinned.{chosen, chosen_none, chosen_some, drops_in, staying}
 

@@ -12,19 +12,15 @@ use Rattle.lq_base.specs.declared.reason.Reason.TheVariants as reason
 use Rattle.lq_base.specs.declared.value.Value.{Value}
 use Rattle.lq_chain.specs.History.{History}
 use Rattle.lq_decide.proofs.Deleted.{delete_judged}
-use Rattle.lq_decide.specs.Faults.{delete_faults}
-use Rattle.lq_decide.specs.Judged.{judged}
+use Rattle.lq_decide.specs.Faults.{delete_faults, judged}
 use Rattle.lq_model.proofs.Decide.{here, none_from_unless}
 use Rattle.lq_model.proofs.DropKeeps.{any_filtered}
 use Rattle.lq_model.proofs.Kept.{lookup_other, never}
 use Rattle.lq_model.proofs.Lists.{any_less, any_less_both, or_false, or_left, or_right}
 use Rattle.lq_model.proofs.Maps.{any_local, at_lookup}
-use Rattle.lq_model.specs.Catalogue.{Catalogue, Table, no_table, table_of, the_table, with_table}
-use Rattle.lq_model.specs.Delete.{delete, deleted, is_lost, row_count, without_taken}
-use Rattle.lq_model.specs.Plan.{Plan, decide}
-use Rattle.lq_model.specs.Reasons.{unless}
-use Rattle.lq_model.specs.ResultTests.{has_orphan, has_orphans, lacks_parent}
-use Rattle.lq_model.specs.Row.{is_null, picked, same_values}
+use Rattle.lq_model.specs.Catalogue.{Catalogue, Table, no_table, table_of, the_table, with_table, is_null, picked, same_values}
+use Rattle.lq_model.specs.Rows.{delete, deleted, is_lost, row_count, without_taken}
+use Rattle.lq_model.specs.Plan.{Plan, decide, unless, has_orphan, has_orphans, lacks_parent}
 use Rattle.lq_model.specs.Sound.{IsSound}
 use Rattle.lq_model.specs.Truth.{takes}
 use Rattle.lq_model.specs.declared.caller.By.{By}
@@ -32,12 +28,11 @@ use Rattle.lq_model.specs.declared.column.Column.{Column}
 use Rattle.lq_model.specs.declared.constraint.ForeignKey.{ForeignKey}
 use Rattle.lq_model.specs.declared.test.Test.{Test}
 use Rattle.lq_rows.proofs.Continued.{stays}
-use Rattle.lq_rows.specs.Answers.{Carries, Continues, Means}
+use Rattle.lq_rows.specs.Stored.{Carries, Continues, Means}
 use Rattle.lq_rows.specs.declared.fault.RunFault.{RunFault}
 use Rattle.lq_rows.specs.declared.fault.RunFault.TheVariants.{OutOfMemory, Refused}
 use Rattle.lq_deletes.proofs.Rounds.{rounds_same}
-use Rattle.lq_deletes.specs.Asked.{cascades_at, is_aimed_at, stated_tests}
-use Rattle.lq_deletes.specs.Stay.{IsLinked, loses_row}
+use Rattle.lq_deletes.specs.Places.{cascades_at, is_aimed_at, stated_tests, IsLinked, loses_row}
 
 -- a sound catalogue's rows have one parent by each foreign key
 pub linked : (d : Dialect) (c : Catalogue) → IsSound d c → IsLinked c

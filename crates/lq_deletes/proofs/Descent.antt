@@ -9,12 +9,9 @@ use Rattle.std.specs.Prelude.{Bool, List, None, Option, Some, T, [], cond, false
 use Rattle.lq_base.specs.Name.{is_named, name_cmp}
 use Rattle.lq_base.specs.declared.name.Name.{Name}
 use Rattle.lq_base.specs.declared.value.Value.{Value}
-use Rattle.lq_model.specs.Catalogue.{Catalogue, Table, no_table, table_of, the_table, with_table}
-use Rattle.lq_model.specs.Delete.{is_lost, row_count, without_lost, without_lost_in, without_taken}
-use Rattle.lq_model.specs.Names.{same_names}
-use Rattle.lq_model.specs.ResultTests.{has_orphan, lacks_parent, misses_target, table_has_twins}
-use Rattle.lq_model.specs.Row.{has_equals, is_null, picked, same_values}
-use Rattle.lq_model.specs.TableNames.{target_lists}
+use Rattle.lq_model.specs.Catalogue.{Catalogue, Table, no_table, table_of, the_table, with_table, same_names, has_equals, is_null, picked, same_values, target_lists}
+use Rattle.lq_model.specs.Rows.{is_lost, row_count, without_lost, without_lost_in, without_taken}
+use Rattle.lq_model.specs.Plan.{has_orphan, lacks_parent, misses_target, table_has_twins}
 use Rattle.lq_model.specs.Truth.{takes}
 use Rattle.lq_model.specs.declared.constraint.ForeignKey.{ForeignKey}
 use Rattle.lq_model.specs.declared.test.Test.{Test}
@@ -22,10 +19,7 @@ use Rattle.lq_model.proofs.Kept.{lookup_other, the_table-with_table}
 use Rattle.lq_model.proofs.Lists.{and_left, and_right, and_true, any-append, named_itself, not_false, or_left, same_name, true_false, whether}
 use Rattle.lq_model.proofs.Maps.{at_lookup, lookup-values, not_some, some_same, sorted_entries}
 use Rattle.lq_model.proofs.Untouched.{same_list}
-use Rattle.lq_deletes.specs.Gone.{MarkRows}
-use Rattle.lq_deletes.specs.Rows.{Named, all_rows, rows_in}
-use Rattle.lq_deletes.specs.Spread.{Spread, children_of, is_marked}
-use Rattle.lq_deletes.specs.Stay.{Choice, IsLinked, has_lost, is_taken, kept_at, kept_by, outlives, stays}
+use Rattle.lq_deletes.specs.Places.{MarkRows, Named, all_rows, rows_in, Spread, children_of, is_marked, Choice, IsLinked, has_lost, is_taken, kept_at, kept_by, outlives, stays}
 use Rattle.lq_deletes.proofs.Among.{Among, all_false, among_filter, among_first, among_later, among_some, any_filter, at_among, no_nulls, one_row}
 use Rattle.lq_deletes.proofs.Numbered.{all_of}
 use Rattle.lq_deletes.proofs.Rounds.{cascades_end, fewer_set, kept_lookup, kept_table, lengths}

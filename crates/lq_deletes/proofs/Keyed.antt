@@ -7,9 +7,9 @@ use Rattle.std.specs.declared.cmp.Ordering.{Ordering}
 use Rattle.std.specs.declared.cmp.Ordering.TheVariants.{Equal, Greater, Less}
 use Rattle.lq_base.specs.declared.value.Value.{Value}
 use Rattle.lq_base.specs.declared.value.Value.TheVariants as value
-use Rattle.lq_model.specs.Row.{is_null, same_value, same_values}
+use Rattle.lq_model.specs.Catalogue.{is_null, same_value, same_values}
 use Rattle.lq_model.proofs.Lists.{or_left, or_right}
-use Rattle.lq_rows.specs.Order.{value_cmp, values_cmp}
+use Rattle.lq_rows.specs.Stored.{value_cmp, values_cmp}
 
 eq_then : (a b : Ordering) → is_eq (ordering_then a b) ≡ (is_eq a && is_eq b)
 eq_then Less b = refl

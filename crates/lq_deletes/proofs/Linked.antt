@@ -8,9 +8,8 @@ use Rattle.std.specs.Prelude.{Bool, List, None, Option, Some, T, [], cond, false
 use Rattle.lq_base.specs.Name.{is_named, name_cmp}
 use Rattle.lq_base.specs.declared.name.Name.{Name}
 use Rattle.lq_base.specs.declared.value.Value.{Value}
-use Rattle.lq_model.specs.Catalogue.{Catalogue, Table, no_table, the_table}
-use Rattle.lq_model.specs.ResultTests.{misses_target}
-use Rattle.lq_model.specs.Row.{has_equals, picked, same_values}
+use Rattle.lq_model.specs.Catalogue.{Catalogue, Table, no_table, the_table, has_equals, picked, same_values}
+use Rattle.lq_model.specs.Plan.{misses_target}
 use Rattle.lq_model.specs.Truth.{takes}
 use Rattle.lq_model.specs.declared.column.Column.{Column}
 use Rattle.lq_model.specs.declared.constraint.ForeignKey.{ForeignKey}
@@ -19,11 +18,7 @@ use Rattle.lq_model.proofs.Kept.{never}
 use Rattle.lq_model.proofs.Lists.{and_no_right, any-append, any_less, map-map, or_false, or_left, or_right, same_name, true_false, whether}
 use Rattle.lq_model.proofs.Maps.{below_gone, not_some, sorted_entries}
 use Rattle.std.proofs.lemmas.List.{length-append, map-append}
-use Rattle.lq_deletes.specs.Gone.{MarkRows, taken_in}
-use Rattle.lq_deletes.specs.Places.{Gains, is_place, key_linked, keys_linked, last_with, linked, or_else, parent_in, tables_linked}
-use Rattle.lq_deletes.specs.Rows.{Named, all_rows, row_total, rows_in}
-use Rattle.lq_deletes.specs.Spread.{are_below, is_marked}
-use Rattle.lq_deletes.specs.Stay.{IsLinked, is_taken}
+use Rattle.lq_deletes.specs.Places.{MarkRows, taken_in, Gains, is_place, key_linked, keys_linked, last_with, linked, or_else, parent_in, tables_linked, Named, all_rows, row_total, rows_in, are_below, is_marked, IsLinked, is_taken}
 use Rattle.lq_deletes.proofs.Among.{alike}
 use Rattle.lq_deletes.proofs.Descent.{AreCascades, at_table, cascades_to, has_twin_targets, named_rows, unique}
 use Rattle.lq_deletes.proofs.Numbered.{edges_below, get_within, item_at, item_before, item_get, marked_by, numbered_at, or_none, passes, passes_append, passes_both, passes_map, passes_none, passes_same}

@@ -5,8 +5,7 @@ use Rattle.std.proofs.lemmas.List.{get_or-set_same, get_or-set_other, length-set
 use Rattle.std.specs.List.{list_all, list_any}
 use Rattle.std.specs.Prelude.{Bool, List, [], false, length, nat_lt, refl, slice_index_or, slice_set, suc, true, zero, ℕ, ◌+◌, ◌++◌, ◌<◌, ◌==◌, ◌||◌, ◌∷◌, ◌≡◌}
 use Rattle.lq_model.proofs.Lists.{any-append, all-append, all-append_left, all-append_right, or_left, or_right, or_false, and_left, and_right, and_true, true_false, whether}
-use Rattle.lq_deletes.specs.Noting.{State, note, note_by, notes}
-use Rattle.lq_deletes.specs.Spread.{AreSpreadBut, Follow, are_below, children_of, is_marked}
+use Rattle.lq_deletes.specs.Places.{State, note, note_by, notes, AreSpreadBut, Follow, are_below, children_of, is_marked}
 
 -- how many are not marked
 abbrev pub unmarked : List Bool → ℕ

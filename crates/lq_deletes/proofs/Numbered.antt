@@ -5,8 +5,7 @@ use Rattle.std.specs.List.{list_all, list_any}
 use Rattle.std.specs.Prelude.{Bool, List, None, Option, Some, [], cond, false, length, map, nat_lt, refl, slice_get, suc, true, zero, ℕ, ◌+◌, ◌++◌, ◌<◌, ◌==◌, ◌||◌, ◌∷◌, ◌≡◌}
 use Rattle.lq_model.proofs.Lists.{and_true, whether}
 use Rattle.lq_model.proofs.Maps.{not_some, some_same}
-use Rattle.lq_deletes.specs.Rows.{numbered}
-use Rattle.lq_deletes.specs.Spread.{AreMarks, are_below, children_of, is_marked}
+use Rattle.lq_deletes.specs.Places.{numbered, AreMarks, are_below, children_of, is_marked}
 
 pub or_none : (b : Bool) → (b || false) ≡ b
 or_none true = refl

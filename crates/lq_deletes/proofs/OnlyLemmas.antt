@@ -2,7 +2,7 @@
 use Rattle.std.proofs.Common.{Bool, List, Some, ap, map, nat_eq, not, slice_get, sym, ℕ, ◌∙◌, ◌≡◌}
 use Rattle.lq_base.specs.declared.value.Value.{Value}
 use Rattle.lq_model.specs.Catalogue.{Table}
-use Rattle.lq_model.specs.Delete.{without_taken}
+use Rattle.lq_model.specs.Rows.{without_taken}
 use Rattle.lq_model.specs.Truth.{takes}
 use Rattle.lq_model.specs.declared.test.Test.{Test}
 use Rattle.std.specs.Prelude.{Option}

@@ -6,19 +6,15 @@ use Rattle.std.specs.Prelude.{Bool, IfSome, List, None, Option, Some, [], cond, 
 use Rattle.lq_base.specs.Name.{is_named}
 use Rattle.lq_base.specs.declared.name.Name.{Name}
 use Rattle.lq_base.specs.declared.value.Value.{Value}
-use Rattle.lq_model.specs.Catalogue.{Table}
-use Rattle.lq_model.specs.Row.{is_null, picked, same_values}
+use Rattle.lq_model.specs.Catalogue.{Table, is_null, picked, same_values}
 use Rattle.lq_model.specs.declared.column.Column.{Column}
 use Rattle.lq_model.specs.declared.constraint.ForeignKey.{ForeignKey}
 use Rattle.lq_model.proofs.Lists.{append-nil}
 use Rattle.lq_model.proofs.Maps.{not_some, some_same}
 use Rattle.lq_parts.specs.Steps.{tables_of}
-use Rattle.lq_rows.specs.Order.{values_cmp}
-use Rattle.lq_rows.specs.Stored.{Stored}
+use Rattle.lq_rows.specs.Stored.{values_cmp, Stored}
 use Rattle.lq_rows.proofs.SeenLemmas.{null_differs, same_values_back}
-use Rattle.lq_deletes.specs.Places.{AreBare, ArePlaces, Gains, ShowsParents, is_place, key_linked, keys_linked, last_with, linked, or_else, parent_in, tables_linked}
-use Rattle.lq_deletes.specs.Rows.{row_total}
-use Rattle.lq_deletes.specs.Spread.{children_of}
+use Rattle.lq_deletes.specs.Places.{AreBare, ArePlaces, Gains, ShowsParents, is_place, key_linked, keys_linked, last_with, linked, or_else, parent_in, tables_linked, row_total, children_of}
 use Rattle.lq_deletes.proofs.Keyed.{values_equal}
 
 -- some numbers are noted, and the others are still to come

@@ -8,9 +8,9 @@ use Rattle.std.specs.Prelude.{Bool, List, None, Option, Some, [], cond, false, l
 use Rattle.lq_base.specs.Name.{is_named}
 use Rattle.lq_base.specs.declared.name.Name.{Name}
 use Rattle.lq_model.specs.Catalogue.{Catalogue, Table, no_table, table_of, the_table}
-use Rattle.lq_model.specs.Delete.{cascaded, is_lost, row_count, without_lost, without_lost_in}
+use Rattle.lq_model.specs.Rows.{cascaded, is_lost, row_count, without_lost, without_lost_in}
 use Rattle.lq_model.proofs.Lists.{any_less, filter_kept, or_left, or_right, same_name, whether}
-use Rattle.lq_deletes.specs.Stay.{Choice, has_lost, kept_at, kept_by, loses_row}
+use Rattle.lq_deletes.specs.Places.{Choice, has_lost, kept_at, kept_by, loses_row}
 
 abbrev pub rest_of : Catalogue → Name × Table → Name × Table
 rest_of c e = (e.0, without_lost_in c e.1)

@@ -7,12 +7,12 @@ use Rattle.std.specs.Prelude.{Bool, List, None, Option, Some, T, [], cond, false
 use Rattle.lq_base.specs.Name.{is_named, name_cmp}
 use Rattle.lq_base.specs.declared.name.Name.{Name}
 use Rattle.lq_model.specs.Catalogue.{Catalogue, Table, no_table, table_of, the_table, with_table}
-use Rattle.lq_model.specs.Delete.{cascaded, deleted, is_lost, row_count, without_lost, without_lost_in, without_taken}
+use Rattle.lq_model.specs.Rows.{cascaded, deleted, is_lost, row_count, without_lost, without_lost_in, without_taken}
 use Rattle.lq_model.specs.Truth.{takes}
 use Rattle.lq_model.specs.declared.test.Test.{Test}
 use Rattle.lq_model.proofs.Lists.{named_itself, same_name, whether}
 use Rattle.lq_model.proofs.Maps.{below_gone, not_some, some_same, sorted-values, sorted_entries}
-use Rattle.lq_deletes.specs.Stay.{Choice, IsLinked, kept_at, kept_by, outlives, stays}
+use Rattle.lq_deletes.specs.Places.{Choice, IsLinked, kept_at, kept_by, outlives, stays}
 use Rattle.lq_deletes.proofs.Among.{filter_filter}
 use Rattle.lq_deletes.proofs.Rounds.{kept_of, rest_of}
 

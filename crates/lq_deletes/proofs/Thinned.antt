@@ -13,8 +13,7 @@ use Rattle.lq_model.specs.Catalogue.{Catalogue, Table, no_table, the_table, with
 use Rattle.lq_model.proofs.Lists.{filter_kept, named_itself, or_left, or_right, other_way, whether}
 use Rattle.lq_model.proofs.Maps.{below_gone}
 use Rattle.lq_rows.specs.Stored.{with_all}
-use Rattle.lq_deletes.specs.Losses.{AreMarked, thinned, with_thinned}
-use Rattle.lq_deletes.specs.Stay.{Choice}
+use Rattle.lq_deletes.specs.Places.{AreMarked, thinned, with_thinned, Choice}
 use Rattle.lq_deletes.proofs.Rounds.{kept_of}
 
 -- rows kept by a test's marks are those that pass it

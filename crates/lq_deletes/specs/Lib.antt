@@ -1,8 +1,1 @@
-pub mod Asked
-pub mod Gone
-pub mod Losses
-pub mod Noting
 pub mod Places
-pub mod Rows
-pub mod Spread
-pub mod Stay

@@ -1,11 +1,8 @@
 ghost use Rattle.std.specs.Prelude.{◌≡◌, IfOk, OnOk, is_some, map, true, vec_len};
 ghost use Rattle.lq_model.specs.Catalogue.{table_of};
-ghost use Rattle.lq_model.specs.Delete.{deleted};
-ghost use Rattle.lq_rows.specs.Answers.{Continues};
-ghost use Rattle.lq_deletes.specs.Gone.{AreGone};
-ghost use Rattle.lq_deletes.specs.Losses.{AreMarked, marks_of, with_thinned};
-ghost use Rattle.lq_deletes.specs.Rows.{row_total};
-ghost use Rattle.lq_deletes.specs.Stay.{IsLinked};
+ghost use Rattle.lq_model.specs.Rows.{deleted};
+ghost use Rattle.lq_rows.specs.Stored.{Continues};
+ghost use Rattle.lq_deletes.specs.Places.{AreGone, AreMarked, marks_of, with_thinned, row_total, IsLinked};
 
 use crate::edges::edges_of;
 use crate::loss::{Loss, losses_in, thin};

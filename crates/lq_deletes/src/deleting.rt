@@ -4,15 +4,13 @@ ghost use Rattle.std.specs.Prelude.{◌≡◌, ◌&&◌, IfOk, OnErr, OnOk, fals
 ghost use Rattle.lq_base.specs.Name.{is_named};
 ghost use Rattle.lq_chain.specs.History.{changed};
 ghost use Rattle.lq_model.specs.Catalogue.{table_of, the_table, with_table};
-ghost use Rattle.lq_model.specs.Delete as spec;
-ghost use Rattle.lq_model.specs.Plan.{decide};
+ghost use Rattle.lq_model.specs.Rows as spec;
+ghost use Rattle.lq_model.specs.Plan.{decide, has_orphans, is_loose};
 ghost use Rattle.lq_model.specs.Sound.{IsSound};
 ghost use Rattle.lq_model.specs.Truth.{takes};
 ghost use Rattle.lq_parts.specs.Steps.{tables_of};
-ghost use Rattle.lq_model.specs.ResultTests.{has_orphans, is_loose};
-ghost use Rattle.lq_rows.specs.Answers.{Carries, Continues};
-ghost use Rattle.lq_deletes.specs.Asked.{cascades_at, has_targets, is_aimed_at, stated_tests};
-ghost use Rattle.lq_deletes.specs.Stay.{IsLinked};
+ghost use Rattle.lq_rows.specs.Stored.{Carries, Continues};
+ghost use Rattle.lq_deletes.specs.Places.{cascades_at, has_targets, is_aimed_at, stated_tests, IsLinked};
 
 use crate::cascade::cascade;
 use crate::orphan::has_orphans;

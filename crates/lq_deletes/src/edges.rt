@@ -1,11 +1,9 @@
 ghost use Rattle.std.specs.BTreeMap.{get};
 ghost use Rattle.std.specs.Prelude.{◌≡◌, ◌+◌, ◌<◌, ◌≤◌, ◌++◌, ◌∷◌, [], IfOk, IfSome, OnOk, ℕ, cond, length, map, vec_len};
-ghost use Rattle.lq_model.specs.Row.{picked};
+ghost use Rattle.lq_model.specs.Catalogue.{picked};
 ghost use Rattle.lq_parts.specs.Steps.{tables_of};
-ghost use Rattle.lq_rows.specs.Order.{values_cmp};
-ghost use Rattle.lq_deletes.specs.Places.{AreBare, ArePlaces, Gains, is_place, key_linked, keys_linked, linked, tables_linked};
-ghost use Rattle.lq_deletes.specs.Rows.{row_total};
-ghost use Rattle.lq_deletes.specs.Spread.{children_of};
+ghost use Rattle.lq_rows.specs.Stored.{values_cmp};
+ghost use Rattle.lq_deletes.specs.Places.{AreBare, ArePlaces, Gains, is_place, key_linked, keys_linked, linked, tables_linked, row_total, children_of};
 
 use crate::places::parents_of;
 use lq_base::{Items, Name, NoMemory, Value};

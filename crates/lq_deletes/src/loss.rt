@@ -1,9 +1,8 @@
 ghost use Rattle.std.specs.List.{list_any};
 ghost use Rattle.std.specs.Prelude.{◌≡◌, ◌≤◌, ◌++◌, IfOk, OnOk, length, map, not};
 ghost use Rattle.lq_parts.specs.Steps.{tables_of};
-ghost use Rattle.lq_rows.specs.Answers.{Continues};
-ghost use Rattle.lq_deletes.specs.Losses.{AreMarked, losses, lost_in, marks_of, with_thinned};
-ghost use Rattle.lq_deletes.specs.Rows.{row_total};
+ghost use Rattle.lq_rows.specs.Stored.{Continues};
+ghost use Rattle.lq_deletes.specs.Places.{AreMarked, losses, lost_in, marks_of, with_thinned, row_total};
 
 use lq_base::{Duplicate, Name, NoMemory};
 use lq_parts::Parts;

@@ -1,11 +1,10 @@
 ghost use Rattle.std.specs.BTreeMap.{get};
 ghost use Rattle.std.specs.Prelude.{◌≡◌, ◌+◌, ◌≤◌, List, Some, IfOk, OnOk, cond, length};
 ghost use Rattle.lq_base.specs.declared.value.Value.{Value as Kept};
-ghost use Rattle.lq_model.specs.Row.{picked, same_values};
+ghost use Rattle.lq_model.specs.Catalogue.{picked, same_values};
 ghost use Rattle.lq_parts.specs.Steps.{tables_of};
-ghost use Rattle.lq_rows.specs.Order.{values_cmp};
-ghost use Rattle.lq_deletes.specs.Places.{ShowsParents, ShowsPlaces};
-ghost use Rattle.lq_deletes.specs.Rows.{row_total};
+ghost use Rattle.lq_rows.specs.Stored.{values_cmp};
+ghost use Rattle.lq_deletes.specs.Places.{ShowsParents, ShowsPlaces, row_total};
 
 use lq_base::{Name, NoMemory, Value};
 use lq_chain::Chain;

@@ -1,8 +1,6 @@
 ghost use Rattle.std.specs.List.{list_all};
 ghost use Rattle.std.specs.Prelude.{◌≡◌, ◌<◌, ◌++◌, ◌∷◌, [], IfOk, OnOk, cond, length, true, vec_len};
-ghost use Rattle.lq_deletes.specs.Noting.{notes};
-ghost use Rattle.lq_deletes.specs.Rows.{numbered};
-ghost use Rattle.lq_deletes.specs.Spread.{AreMarks, Spread, are_below, children_of};
+ghost use Rattle.lq_deletes.specs.Places.{notes, numbered, AreMarks, Spread, are_below, children_of};
 
 use lq_base::{Items, NoMemory};
 use std::alloc::Global;

@@ -3,7 +3,7 @@ ghost use Rattle.std.specs.Prelude.{◌≡◌, ◌&&◌, ◌++◌, IfOk, OnOk, m
 ghost use Rattle.lq_model.specs.Catalogue.{the_table};
 ghost use Rattle.lq_model.specs.Truth.{takes};
 ghost use Rattle.lq_parts.specs.Steps.{tables_of};
-ghost use Rattle.lq_deletes.specs.Gone.{taken_in};
+ghost use Rattle.lq_deletes.specs.Places.{taken_in};
 
 use lq_base::{Name, NoMemory, Value};
 use lq_chain::Chain;

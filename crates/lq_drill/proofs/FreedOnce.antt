@@ -13,8 +13,7 @@ use Rattle.lq_drill.specs.declared.fault.DrillFault.{DrillFault}
 use Rattle.lq_model.specs.Script.{if_any}
 use Rattle.lq_track.specs.Database.{Database}
 use Rattle.lq_track.specs.Lock.{free}
-use Rattle.lq_turns.specs.Contents.{contents_of, with_contents}
-use Rattle.lq_turns.specs.Deed.{lock_after}
+use Rattle.lq_turns.specs.Deed.{contents_of, with_contents, lock_after}
 use Rattle.lq_turns.specs.Schedule.{Holder, Job, Machine, all_moved, answers_with, appended, begins, first_step, has_answered, has_begun, later_step, makes, moved, start}
 use Rattle.lq_turns.specs.Script.{closing}
 use Rattle.lq_turns.specs.Serial.{at_once, is_early, open_by, unless_called, unless_open, unless_refused}

@@ -1,5 +1,4 @@
-pub mod Shows
 pub mod Faults
+pub mod Following
 pub mod Player
 pub mod Drill
-pub mod Following

@@ -2,20 +2,16 @@
 use Rattle.std.specs.Option.{option_map}
 use Rattle.std.specs.Prelude.{Bool, Err, List, None, Ok, Option, Result, Some, [], false, if◌then◌else◌, is_some, true, ℕ, ◌&&◌, ◌++◌, ◌≡◌, ◌⊎◌}
 use Rattle.lq_base.specs.declared.dialect.Dialect.{Dialect}
-use Rattle.lq_drill.specs.declared.fault.DrillFault.TheVariants as fault
-use Rattle.lq_turns.specs.Held.{StandsFor}
-use Rattle.lq_turns.specs.Script.{closing}
-use Rattle.lq_track.specs.Database.{Database}
 use Rattle.lq_base.specs.declared.tracking.Lock.{Lock}
-use Rattle.lq_drill.specs.Faults.{IsLetGo, Meets, Steps}
-pub use Rattle.lq_drill.specs.Faults.{answer_of, held_by}
-use Rattle.lq_drill.specs.Shows.{LeftBetween, Shows, entries_of}
+use Rattle.lq_drill.specs.Faults.{IsLetGo, LeftBetween, Meets, Shows, Steps, entries_of}
 use Rattle.lq_drill.specs.declared.fault.DrillFault.{DrillFault}
-use Rattle.lq_store.specs.Crashes.{Crashes, CrashesLeave}
-use Rattle.lq_store.specs.Journal.{Entry}
-use Rattle.lq_store.specs.State.{State}
-use Rattle.lq_turns.specs.Schedule.{Holder, Job, Machine, has_begun}
+use Rattle.lq_drill.specs.declared.fault.DrillFault.TheVariants as fault
+use Rattle.lq_store.specs.Journal.{Crashes, CrashesLeave, Entry, State}
+use Rattle.lq_track.specs.Database.{Database}
+use Rattle.lq_turns.specs.Schedule.{Holder, Job, Machine, StandsFor, has_begun}
+use Rattle.lq_turns.specs.Script.{closing}
 use Rattle.lq_turns.specs.declared.deed.Deed.{Deed}
+pub use Rattle.lq_drill.specs.Faults.{answer_of, held_by}
 
 -- what one answers that met a fault of the store: that fault, or that its lock is gone; or it has not yet answered
 abbrev pub MayAnswer : {Answer : Type 0} → (Lock → Answer) → (DrillFault → Answer) → Option Answer → Type 0

@@ -1,9 +1,9 @@
 ghost use Rattle.std.specs.Prelude.{◌≡◌, ◌≤◌, Err, IsTrue, None, Ok, false, is_some, true};
 ghost use Rattle.lq_drill.specs.Player.{EndsBy, HasMet, LeavesAll, Moves, MovesSafely};
-ghost use Rattle.lq_drill.specs.Shows.{LetsBe};
+ghost use Rattle.lq_drill.specs.Faults.{LetsBe};
 ghost use Rattle.lq_drill.specs.declared.fault.DrillFault.TheVariants as fault;
-ghost use Rattle.lq_outside.specs.Count.{Rose};
-ghost use Rattle.lq_store.specs.State.{is_open};
+ghost use Rattle.lq_outside.specs.Forms.{Rose};
+ghost use Rattle.lq_store.specs.Journal.{is_open};
 
 use crate::fault::DrillFault;
 use lq_model::SqlText;

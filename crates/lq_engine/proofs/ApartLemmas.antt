@@ -8,12 +8,9 @@ use Rattle.std.specs.Prelude.{T}
 use Rattle.std.specs.declared.cmp.Ordering.TheVariants.{Equal, Greater, Less}
 use Rattle.lq_base.specs.Name.{is_named, name_cmp}
 use Rattle.lq_base.specs.declared.name.Name.{Name}
-use Rattle.lq_engine.specs.Users.{is_tracking_table}
-use Rattle.lq_model.specs.Catalogue.{Catalogue, Sequence, Table, View}
-use Rattle.lq_model.specs.NameSpaces.{names_inside, object_names, shared_names}
-use Rattle.lq_model.specs.Names.{is_in}
-use Rattle.lq_model.specs.Reserved.{is_reserved, is_tracking}
-use Rattle.lq_model.specs.TableNames.{foreign_names, inner_names, key_list}
+use Rattle.lq_engine.specs.State.{is_tracking_table}
+use Rattle.lq_model.specs.Catalogue.{Catalogue, Sequence, Table, View, is_in, foreign_names, inner_names, key_list}
+use Rattle.lq_model.specs.NameSpaces.{names_inside, object_names, shared_names, is_reserved, is_tracking}
 use Rattle.lq_model.specs.declared.caller.By.TheVariants.{User}
 use Rattle.lq_model.specs.declared.constraint.ForeignKey.{ForeignKey}
 use Rattle.lq_model.specs.declared.constraint.Key.{Key}
@@ -22,8 +19,8 @@ use Rattle.lq_model.specs.declared.index.Index.{Index}
 use Rattle.lq_model.proofs.Absent.{any-flat_map}
 use Rattle.lq_model.proofs.Lists.{any-append, any-map, any_same, same_name}
 use Rattle.lq_model.proofs.Maps.{sorted-remove_entry}
-use Rattle.lq_parts.specs.Entries.{IsOrdered}
-use Rattle.lq_store.specs.Apart.{names_tracking, names_within}
+use Rattle.lq_parts.specs.Taken.{IsOrdered}
+use Rattle.lq_store.specs.Journal.{names_tracking, names_within}
 use Rattle.lq_track.specs.Database.{users_of}
 use Rattle.lq_track.specs.Lock.{lock_table}
 use Rattle.lq_track.specs.Log.{log_table}

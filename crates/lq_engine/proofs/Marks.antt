@@ -7,15 +7,13 @@ use Rattle.lq_base.specs.declared.dialect.Dialect.{Dialect}
 use Rattle.lq_base.specs.declared.name.Name.{Name}
 use Rattle.lq_chain.specs.History.{History, history, marked, undone_to}
 use Rattle.lq_chain.proofs.HistoryLemmas.{marked-undone_to, undone_to-marked, undone_to-undone_to}
-use Rattle.lq_model.specs.Catalogue.{Catalogue, no_objects}
+use Rattle.lq_model.specs.Catalogue.{Catalogue, no_objects, times}
 use Rattle.lq_base.specs.declared.dialect.Dialect.TheVariants.{Mysql, Postgresql}
 use Rattle.lq_model.specs.NameSpaces.{AreApart}
-use Rattle.lq_model.specs.Names.{times}
 use Rattle.lq_model.specs.Sound.{IsSound, may_have, may_name}
 use Rattle.lq_model.proofs.Maps.{not_some}
-use Rattle.lq_rows.specs.Answers.{Continues}
-use Rattle.lq_engine.specs.Marks.{AllSound, AreMarks, IsGood, catalogues_at, stands_for}
-use Rattle.lq_engine.specs.State.{back, oldest, state}
+use Rattle.lq_rows.specs.Stored.{Continues}
+use Rattle.lq_engine.specs.State.{AllSound, AreMarks, IsGood, catalogues_at, stands_for, back, oldest, state}
 
 -- what stood before earlier statements is not changed by going back to a later mark
 pub earlier : (h : History Catalogue) (mark : ℕ) (marks : List ℕ) → mark ≤ marked h → AreMarks mark marks → catalogues_at (undone_to h mark) marks ≡ catalogues_at h marks

@@ -6,7 +6,7 @@ use Rattle.std.specs.Map.{keys_of}
 use Rattle.lq_base.specs.Name.{name_cmp}
 use Rattle.lq_base.specs.declared.dialect.Dialect.{Dialect}
 use Rattle.lq_base.specs.declared.name.Name.{Name}
-use Rattle.lq_engine.specs.Names.{names_of}
+use Rattle.lq_engine.specs.State.{names_of}
 use Rattle.lq_engine.specs.declared.names.Sort.{Sort}
 use Rattle.lq_engine.specs.declared.names.Sort.TheVariants.{Sequence, Table, View}
 use Rattle.lq_model.specs.Catalogue.{Catalogue}

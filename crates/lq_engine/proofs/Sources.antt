@@ -3,8 +3,8 @@ use Rattle.std.specs.List.{filter}
 use Rattle.std.specs.Prelude.{List, Option, Some, map, not, refl, ◌≡◌}
 use Rattle.lq_base.specs.declared.name.Name.{Name}
 use Rattle.lq_base.specs.declared.value.Value.{Value}
-use Rattle.lq_model.specs.Query.{Source, columns_at, shown_by}
-use Rattle.lq_model.specs.Row.{picked}
+use Rattle.lq_model.specs.Views.{Source, columns_at, shown_by}
+use Rattle.lq_model.specs.Catalogue.{picked, Catalogue, Table, View, the_table}
 use Rattle.lq_model.specs.Truth.{takes}
 use Rattle.lq_model.specs.declared.column.Column.{Column}
 use Rattle.lq_model.specs.declared.test.Test.{Test}
@@ -12,7 +12,6 @@ use Rattle.lq_base.specs.declared.dialect.Dialect.{Dialect}
 use Rattle.lq_engine.specs.Shown.{ViewsStand}
 use Rattle.lq_model.proofs.Lists.{and_left, any_none, not_false, not_true}
 use Rattle.lq_model.proofs.Maps.{at_lookup}
-use Rattle.lq_model.specs.Catalogue.{Catalogue, Table, View, the_table}
 use Rattle.lq_model.specs.Sound.{IsSound, is_view}
 
 pub views_stand : (d : Dialect) (c : Catalogue) → IsSound d c → ViewsStand c

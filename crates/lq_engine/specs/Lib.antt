@@ -1,5 +1,2 @@
-pub mod Marks
 pub mod State
 pub mod Shown
-pub mod Users
-pub mod Names

@@ -1,6 +1,6 @@
 ghost use Rattle.lq_model.specs.Sound.{IsSound};
 ghost use Rattle.lq_model.specs.Step.{step};
-ghost use Rattle.lq_rows.specs.Answers.{Carries};
+ghost use Rattle.lq_rows.specs.Stored.{Carries};
 
 use lq_base::Dialect;
 use lq_columnops::{

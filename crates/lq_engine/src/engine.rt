@@ -2,10 +2,9 @@ ghost use Rattle.std.specs.Prelude.{◌≡◌, ◌∷◌, [], IfOk, OnOk, true};
 ghost use Rattle.lq_chain.specs.History.{history};
 ghost use Rattle.lq_model.specs.Catalogue.{no_objects};
 ghost use Rattle.lq_model.specs.Sound.{IsSound};
-ghost use Rattle.lq_model.specs.Statement.{is_statement};
-ghost use Rattle.lq_model.specs.Step.{step};
+ghost use Rattle.lq_model.specs.Step.{is_statement, step};
 ghost use Rattle.lq_engine.specs.State.{Runs, back, oldest, state};
-ghost use Rattle.lq_parts.specs.Entries.{IsOrdered};
+ghost use Rattle.lq_parts.specs.Taken.{IsOrdered};
 
 use crate::arms::carry_out;
 use crate::fault::PartsFault;
@@ -38,7 +37,7 @@ impl Model for Engine {
     ghost coded = { Prim.hlevel (codes, test.the_row.coded) };
 
     ghost use Rattle.std.specs.Prelude.{reverse};
-    ghost use Rattle.lq_engine.specs.Marks.{IsGood, stands_for};
+    ghost use Rattle.lq_engine.specs.State.{IsGood, stands_for};
 
     ghost view = { λ e. stands_for e.dialect e.parts (reverse e.starts.items) };
 

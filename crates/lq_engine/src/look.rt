@@ -3,8 +3,7 @@ ghost use Rattle.std.specs.Option.{option_copied};
 ghost use Rattle.std.specs.Prelude.{◌≡◌, length, option_map};
 ghost use Rattle.lq_base.specs.Name.{is_named};
 ghost use Rattle.lq_engine.specs.State.{State};
-ghost use Rattle.lq_model.specs.Catalogue.{sequence_of, view_of};
-ghost use Rattle.lq_model.specs.Look.{at_table};
+ghost use Rattle.lq_model.specs.Catalogue.{sequence_of, view_of, at_table};
 
 use crate::engine::Engine;
 use crate::source::source_at;

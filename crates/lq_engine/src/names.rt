@@ -2,7 +2,7 @@ ghost use Rattle.std.specs.List.Sorted.{IsStrictlySortedBy};
 ghost use Rattle.std.specs.Map.{keys_of};
 ghost use Rattle.std.specs.Prelude.{◌≡◌, IfOk};
 ghost use Rattle.lq_base.specs.Name.{name_cmp};
-ghost use Rattle.lq_engine.specs.Names.{names_of};
+ghost use Rattle.lq_engine.specs.State.{names_of};
 
 use crate::engine::Engine;
 use lq_base::{Duplicate, Items, Name, NoMemory};

@@ -1,7 +1,7 @@
 ghost use Rattle.std.specs.Option.{option_map};
 ghost use Rattle.std.specs.Prelude.{◌≡◌};
 ghost use Rattle.lq_engine.specs.Shown.{ViewsStand};
-ghost use Rattle.lq_model.specs.Query.{source_of};
+ghost use Rattle.lq_model.specs.Views.{source_of};
 ghost use Rattle.lq_query.specs.Source.{source_meant};
 
 use lq_base::Name;

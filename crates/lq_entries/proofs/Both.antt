@@ -3,8 +3,7 @@ use Rattle.std.proofs.Common.{◌≡◌, ◌∙◌, ◌+◌, ◌≤◌, ◌⊎�
 use Rattle.std.specs.Option.{option_map}
 use Rattle.std.proofs.lemmas.List.{append_assoc}
 use Rattle.std.proofs.lemmas.List.Sums.{sum_by-append}
-use Rattle.lq_store.specs.Crashes.{Crashes, IsFront, Leaves, LeavesFront}
-use Rattle.lq_store.specs.Journal.{Entry, IsFrontOf, end_of, entry_size, is_full, size_of_all}
+use Rattle.lq_store.specs.Journal.{Crashes, IsFront, Leaves, LeavesFront, Entry, IsFrontOf, end_of, entry_size, is_full, size_of_all}
 use Rattle.lq_model.specs.declared.caller.Room.TheVariants.{Ordinary}
 use Rattle.lq_entries.specs.Log.{IsCut, Log, gained}
 

@@ -12,8 +12,7 @@ use Rattle.lq_frames.specs.Body.{size_of}
 use Rattle.lq_frames.specs.declared.entry.Body.TheVariants as body
 use Rattle.lq_model.proofs.Lists.{true_false}
 use Rattle.lq_model.specs.declared.caller.Room.{Room}
-use Rattle.lq_store.specs.Crashes.{Crashes, LeavesFront}
-use Rattle.lq_store.specs.Journal.{Entry, end_of, entry_size, is_full, of_texts, size_of_all}
+use Rattle.lq_store.specs.Journal.{Crashes, LeavesFront, Entry, end_of, entry_size, is_full, of_texts, size_of_all}
 use Rattle.lq_store.specs.Journal.Entry.{Texts}
 
 -- the entries in front of one, it, and those behind it

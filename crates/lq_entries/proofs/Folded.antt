@@ -2,8 +2,7 @@
 use Rattle.std.proofs.Common.{◌≡◌, ◌∙◌, ◌||◌, ℕ, Bool, true, false, cond, List, [], ◌∷◌, map, Ok, Err, Result, Option, None, Some, refl, sym, ap}
 use Rattle.lq_base.specs.declared.dialect.Dialect.{Dialect}
 use Rattle.lq_codec.specs.State.{state_of}
-use Rattle.lq_frames.specs.Body.{is_state}
-use Rattle.lq_frames.specs.Journal.{from_last_state, has_state}
+use Rattle.lq_frames.specs.Body.{is_state, from_last_state, has_state}
 use Rattle.lq_frames.specs.declared.entry.Body.{Body}
 use Rattle.lq_frames.specs.declared.entry.Body.TheVariants.{State, Texts}
 use Rattle.lq_frames.specs.declared.entry.Entry.{Entry as Placed}

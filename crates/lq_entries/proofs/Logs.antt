@@ -8,12 +8,11 @@ use Rattle.std.proofs.lemmas.List.{append_assoc, append-nil, map-append}
 use Rattle.lq_base.specs.declared.dialect.Dialect.{Dialect}
 use Rattle.lq_frames.proofs.Numbers.{number-length}
 use Rattle.lq_frames.proofs.Texts.{entry_of-length}
-use Rattle.lq_frames.specs.Body.{framed_texts, number, size_of}
+use Rattle.lq_frames.specs.Body.{framed_texts, number, size_of, journal_of, with_last, IsSameOrMore}
 use Rattle.lq_frames.specs.declared.entry.Body.{Body}
 use Rattle.lq_frames.specs.declared.entry.Body.TheVariants.{State, Texts}
-use Rattle.lq_frames.specs.Journal.{journal_of, with_last, IsSameOrMore}
 use Rattle.lq_frames.specs.declared.entry.Entry.{Entry as Placed}
-use Rattle.lq_journal.specs.AppendFault.{end_of as journal_end}
+use Rattle.lq_journal.specs.State.{end_of as journal_end}
 use Rattle.lq_model.specs.declared.caller.Room.{Room}
 use Rattle.lq_model.specs.declared.caller.Room.TheVariants.{Ordinary, Release}
 use Rattle.lq_store.specs.Journal.{Entry, end_of, entry_size, size_of_all}

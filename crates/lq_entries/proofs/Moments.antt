@@ -5,11 +5,10 @@ use Rattle.std.proofs.lemmas.List.{append-nil, map-append}
 use Rattle.lq_base.specs.declared.dialect.Dialect.{Dialect}
 use Rattle.lq_outside.specs.Crash.{Crashes as DiskCrashes, IsSound, LeavesOnly, Settled}
 use Rattle.lq_outside.proofs.Moments.{started, then, weaker}
-use Rattle.lq_frames.specs.Journal.{journal_of, with_last, StandsForSame, StandsForSameOrMore}
+use Rattle.lq_frames.specs.Body.{journal_of, with_last, StandsForSame, StandsForSameOrMore}
 use Rattle.lq_frames.specs.declared.entry.Body.{Body}
 use Rattle.lq_frames.specs.declared.entry.Entry.{Entry as Placed}
-use Rattle.lq_store.specs.Crashes.{Crashes, IsFront, Leaves, LeavesFront}
-use Rattle.lq_store.specs.Journal.{Entry}
+use Rattle.lq_store.specs.Journal.{Crashes, IsFront, Leaves, LeavesFront, Entry}
 use Rattle.lq_entries.specs.Log.{as_entry, crashes_in, entries_in, if_undamaged, unplaced}
 
 -- journals as their entries

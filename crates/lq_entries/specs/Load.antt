@@ -1,14 +1,13 @@
 -- The catalogue that the bytes of a journal stand for, or the place of damage.
-use Rattle.std.specs.Prelude.{Bool, List, None, Option, Some, Result, Ok, Err, false, not, cond, ◌&&◌, ◌∷◌, [], ℕ}
+use Rattle.std.specs.Prelude.{Bool, Err, List, None, Ok, Option, Result, Some, [], cond, false, not, ℕ, ◌&&◌, ◌∷◌}
 use Rattle.lq_base.specs.declared.dialect.Dialect.{Dialect}
 use Rattle.lq_codec.specs.State.{state_of}
-use Rattle.lq_frames.specs.Journal.{journal_of, used_by}
+use Rattle.lq_frames.specs.Body.{journal_of, used_by}
 use Rattle.lq_frames.specs.declared.entry.Body.{Body}
 use Rattle.lq_frames.specs.declared.entry.Body.TheVariants.{State, Texts}
 use Rattle.lq_frames.specs.declared.entry.Entry.{Entry as Placed}
 use Rattle.lq_model.specs.Catalogue.{Catalogue, no_objects}
-use Rattle.lq_store.specs.Apart.{is_apart}
-use Rattle.lq_store.specs.Journal.{run_texts}
+use Rattle.lq_store.specs.Journal.{is_apart, run_texts}
 use Rattle.lq_track.specs.Database.{Database, database_of, has_twin_rows}
 
 abbrev pub or_at : ℕ → Option Catalogue → Result Catalogue ℕ

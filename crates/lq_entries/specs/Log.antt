@@ -1,13 +1,13 @@
 -- A journal as a store sees it: its entries without their places, and what a crash may leave of them.
 use Rattle.std.specs.List.{sum_by}
-use Rattle.std.specs.Prelude.{[], ◌∷◌, ◌≡◌, Bool, IfSome, List, None, Option, Result, Ok, Err, Some, false, true, is_some, map, ℕ, ◌+◌, ◌++◌}
 use Rattle.std.specs.Option.{option_and_then, option_map}
+use Rattle.std.specs.Prelude.{Bool, Err, IfSome, List, None, Ok, Option, Result, Some, [], false, is_some, map, true, ℕ, ◌++◌, ◌+◌, ◌∷◌, ◌≡◌}
 use Rattle.lq_base.specs.declared.dialect.Dialect.{Dialect}
+use Rattle.lq_frames.specs.Body.{journal_of}
 use Rattle.lq_frames.specs.declared.entry.Body.{Body}
 use Rattle.lq_frames.specs.declared.entry.Body.TheVariants as body
-use Rattle.lq_frames.specs.Journal.{journal_of}
-use Rattle.lq_journal.specs.State.{IsLoaded, dialect_of, limit_of, used_of}
 use Rattle.lq_frames.specs.declared.entry.Entry.{Entry as Placed}
+use Rattle.lq_journal.specs.State.{IsLoaded, dialect_of, limit_of, used_of}
 use Rattle.lq_journal.specs.declared.fault.AppendFault.{AppendFault}
 use Rattle.lq_journal.specs.declared.fault.AppendFault.TheVariants.{Disk, Full}
 use Rattle.lq_journal.specs.declared.journal.Journal.{Journal}
@@ -15,8 +15,7 @@ use Rattle.lq_model.specs.declared.caller.Room.{Room}
 use Rattle.lq_model.specs.declared.fault.StoreFault.{StoreFault}
 use Rattle.lq_model.specs.declared.fault.StoreFault.TheVariants as fault
 use Rattle.lq_outside.specs.Crash.{Crashes as DiskCrashes, Settled}
-use Rattle.lq_store.specs.Crashes.{Crashes}
-use Rattle.lq_store.specs.Journal.{Entry, IsFrontOf, end_of, is_full, size_of_all}
+use Rattle.lq_store.specs.Journal.{Crashes, Entry, IsFrontOf, end_of, is_full, size_of_all}
 use Rattle.lq_store.specs.Journal.Entry.{Stated, Texts}
 
 pub record Log : Type 0 where

@@ -2,10 +2,9 @@ ghost use Rattle.std.specs.Prelude.{◌≡◌, ◌+◌, ◌≤◌, [], ◌∷◌
 ghost use Rattle.lq_entries.specs.Log.{IsWhole, MayAppend, MayWrite, UnlessDisk, UnlessFailed, as_entry, crashes_in, entries_of, log_of};
 ghost use Rattle.lq_model.specs.declared.caller.Room.TheVariants.{Ordinary};
 ghost use Rattle.lq_journal.specs.State.{dialect_of, disk_of, limit_of, used_of};
-ghost use Rattle.lq_outside.specs.Count.{Rose};
-ghost use Rattle.lq_store.specs.Journal.{end_of, is_full, of_texts, size_of_all};
+ghost use Rattle.lq_outside.specs.Forms.{Rose};
+ghost use Rattle.lq_store.specs.Journal.{end_of, is_full, of_texts, size_of_all, LeavesFront};
 ghost use Rattle.lq_store.specs.Journal.Entry.{Texts};
-ghost use Rattle.lq_store.specs.Crashes.{LeavesFront};
 
 use lq_frames::{Encoded, EncodedEntry};
 use lq_journal::{AppendFault, Journal};

@@ -7,7 +7,7 @@ use Rattle.lq_expr.specs.declared.expr.ExprFault.TheVariants.{NotExpr, OutOfMemo
 use Rattle.lq_operators.specs.declared.word.Word.{Word}
 use Rattle.lq_operators.specs.declared.word.Word.TheVariants as word
 use Rattle.lq_expr.specs.Cuts.{negated, enclosed, is_close}
-use Rattle.lq_expr.specs.Gives.{Gives}
+use Rattle.lq_expr.specs.Spelled.{Gives}
 use Rattle.lq_expr.specs.Grammar.{factor, name, expression, inside, or_fault}
 
 deeper : {X : Type 0} (f : ℕ → X) (n : ℕ) → (n ≡ 0 → ⊥) → f n ≡ f (suc (n - 1))

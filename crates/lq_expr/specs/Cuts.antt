@@ -1,9 +1,9 @@
 -- Where words are cut first, and what a factor begins with.
-use Rattle.std.specs.Prelude.{ℕ, suc, Bool, true, false, List, [], ◌∷◌, Option, Some, None, if◌then◌else◌}
+use Rattle.std.specs.Prelude.{Bool, List, None, Option, Some, [], false, if◌then◌else◌, suc, true, ℕ, ◌∷◌}
+use Rattle.lq_expr.specs.Grammar.{cut, depth_after, inside, is_cut}
 use Rattle.lq_operators.specs.declared.operator.Operator.{Operator}
 use Rattle.lq_operators.specs.declared.word.Word.{Word}
 use Rattle.lq_operators.specs.declared.word.Word.TheVariants as word
-use Rattle.lq_expr.specs.Grammar.{is_cut, depth_after, cut, inside}
 
 -- the place of the first such operator outside parentheses, or the number of words
 unfoldable pub place : Operator → ℕ → List Word → ℕ

@@ -1,16 +1,16 @@
 -- The expression that words spell: the words are split at their loosest operator outside parentheses.
-use Rattle.std.specs.Prelude.{ℕ, zero, suc, ◌-◌, Bool, true, false, ◌&&◌, ◌==◌, List, [], ◌∷◌, Option, Some, None, option_map, option_and_then, Result, Ok, Err, codes, nat_eq, if◌then◌else◌}
 use Rattle.std.specs.List.{starts_with}
+use Rattle.std.specs.Prelude.{Bool, Err, List, None, Ok, Option, Result, Some, [], codes, false, if◌then◌else◌, nat_eq, option_and_then, option_map, suc, true, zero, ℕ, ◌&&◌, ◌-◌, ◌==◌, ◌∷◌}
+use Rattle.lq_expr.specs.Words.{longer, words}
 use Rattle.lq_expr.specs.declared.expr.Expr.{Expr}
 use Rattle.lq_expr.specs.declared.expr.Expr.TheVariants as expr
 use Rattle.lq_expr.specs.declared.expr.ExprFault.{ExprFault}
 use Rattle.lq_expr.specs.declared.expr.ExprFault.TheVariants.{NotExpr}
+use Rattle.lq_operators.specs.Operators.{is_operator}
 use Rattle.lq_operators.specs.declared.operator.Operator.{Operator}
-use Rattle.lq_operators.specs.declared.operator.Operator.TheVariants.{Comma, Or, And}
+use Rattle.lq_operators.specs.declared.operator.Operator.TheVariants.{And, Comma, Or}
 use Rattle.lq_operators.specs.declared.word.Word.{Word}
 use Rattle.lq_operators.specs.declared.word.Word.TheVariants as word
-use Rattle.lq_operators.specs.Operators.{is_operator}
-use Rattle.lq_expr.specs.Words.{words, longer}
 
 -- how many parentheses are open behind a word
 abbrev pub depth_after : Word → ℕ → ℕ
@@ -83,3 +83,28 @@ or_fault None = Err NotExpr
 -- what a text is read as, were there memory enough
 abbrev pub parsed : List ℕ → Result Expr ExprFault
 parsed text = or_fault (expression (factor 64) (words text))
+
+-- Names with commas between.
+
+-- the name, unless it begins with `@`
+abbrev pub label_named : List ℕ → Option (List ℕ)
+label_named n = if starts_with nat_eq n (codes "@") then None else Some n
+
+-- one word that is a name
+abbrev pub label_name : List Word → Option (List ℕ)
+label_name (word.Name n ∷ []) = label_named n
+label_name _ = None
+
+-- no words are no names; else the words cut at each comma are a name each
+abbrev pub names_in : List Word → Option (List (List ℕ))
+names_in [] = Some []
+names_in (w ∷ ws) = each label_name (cut Comma 0 (w ∷ ws))
+
+-- `NotExpr` where there are none
+abbrev pub names_or_fault : Option (List (List ℕ)) → Result (List (List ℕ)) ExprFault
+names_or_fault (Some names) = Ok names
+names_or_fault None = Err NotExpr
+
+-- the names that a text lists, were there memory enough
+abbrev pub parsed_names : List ℕ → Result (List (List ℕ)) ExprFault
+parsed_names text = names_or_fault (names_in (words text))

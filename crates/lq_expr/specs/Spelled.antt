@@ -1,12 +1,23 @@
--- Expressions as they are spelled, from the grammar's side.
-use Rattle.std.specs.Prelude.{◌≡◌, ℕ, zero, suc, false, List, [], ◌∷◌, ◌++◌, Some, codes, nat_eq}
-use Rattle.std.specs.List.{starts_with}
-use Rattle.lq_expr.specs.declared.expr.Expr.{Expr}
+-- The answer of a reading, or want of memory.
+use Rattle.std.specs.List.{list_all, list_any, starts_with}
+use Rattle.std.specs.Prelude.{Bool, Err, List, None, Ok, Option, Result, Some, [], codes, false, nat_eq, not, suc, zero, ℕ, ◌++◌, ◌∷◌, ◌≡◌}
+use Rattle.std.specs.Str.{str_eq_ignore_ascii_case}
+use Rattle.lq_expr.specs.Grammar.{expression, factor, join}
+use Rattle.lq_expr.specs.declared.expr.Expr.{Expr, fold-Expr}
+use Rattle.lq_expr.specs.declared.expr.Expr.TheOpen.{Expr-F}
 use Rattle.lq_expr.specs.declared.expr.Expr.TheVariants as expr
+use Rattle.lq_expr.specs.declared.expr.ExprFault.{ExprFault}
+use Rattle.lq_expr.specs.declared.expr.ExprFault.TheVariants.{NotExpr, OutOfMemory}
 use Rattle.lq_operators.specs.declared.operator.Operator.TheVariants as operator
 use Rattle.lq_operators.specs.declared.word.Word.{Word}
 use Rattle.lq_operators.specs.declared.word.Word.TheVariants as word
-use Rattle.lq_expr.specs.Grammar.{join, expression, factor}
+
+abbrev pub Gives : {A : Type 0} → Option A → Result A ExprFault → Type 0
+Gives meant (Ok a) = meant ≡ Some a
+Gives meant (Err NotExpr) = meant ≡ None
+Gives meant (Err OutOfMemory) = Unit {0}
+
+-- Expressions as they are spelled, from the grammar's side.
 
 -- a factor is a name, a negated factor or an expression in parentheses; `and` stands between factors, `or` between
 -- those, and `,` between those again
@@ -101,3 +112,20 @@ pub record IsSpelled (levels : ℕ) (ws : List Word) (e : Expr) : Type 0 where
 -- words that are read as a tree are those of an expression with that tree
 abbrev pub ReadIsSpelled : Type 0
 ReadIsSpelled = (levels : ℕ) (ws : List Word) (e : Expr) → expression (factor levels) ws ≡ Some e → IsSpelled levels ws e
+
+-- The value of an expression.
+
+-- names are compared without regard to the case of their ASCII letters
+unfoldable pub is_same_name : List ℕ → List ℕ → Bool
+is_same_name = str_eq_ignore_ascii_case
+
+-- a name is among those given; the other forms from the values of their parts
+abbrev pub value_of : List (List ℕ) → Expr-F Bool → Bool
+value_of names (Expr-F.Name name) = list_any (is_same_name name) names
+value_of names (Expr-F.Not value) = not value
+value_of names (Expr-F.All values) = list_all (λ value. value) values
+value_of names (Expr-F.Any values) = list_any (λ value. value) values
+
+-- the value of an expression where these names, and no others, are given
+abbrev pub holds : List (List ℕ) → Expr → Bool
+holds names = fold-Expr Bool (value_of names)

@@ -1,7 +1,7 @@
 ghost use Rattle.std.specs.Prelude.{◌≡◌, map};
 ghost use Rattle.std.specs.List.{list_all, list_any};
 ghost use Rattle.lq_expr.specs.declared.expr.ExprFault.TheVariants.{OutOfMemory};
-ghost use Rattle.lq_expr.specs.Value.{holds, is_same_name};
+ghost use Rattle.lq_expr.specs.Spelled.{holds, is_same_name};
 
 use lq_base::{Boxed, Items, NoMemory, Text};
 use std::alloc::{AllocError, AllocFailed};

@@ -1,6 +1,6 @@
 ghost use Rattle.std.specs.Prelude.{◌≡◌, ◌⊎◌, Err};
-ghost use Rattle.lq_expr.specs.Gives.{Gives};
-ghost use Rattle.lq_expr.specs.Names.{label_name, label_named, names_in, parsed_names};
+ghost use Rattle.lq_expr.specs.Spelled.{Gives};
+ghost use Rattle.lq_expr.specs.Grammar.{label_name, label_named, names_in, parsed_names};
 
 use crate::expr::ExprFault;
 use crate::reading::first_part;

@@ -1,7 +1,7 @@
 ghost use Rattle.std.specs.Prelude.{◌≡◌, ◌⊎◌, ◌∷◌, ◌<◌, Err, length, IfSome, option_map};
 ghost use Rattle.lq_expr.specs.Cuts.{place, rest_of, negated, enclosed, is_close};
 ghost use Rattle.lq_expr.specs.Grammar as spec;
-ghost use Rattle.lq_expr.specs.Gives.{Gives};
+ghost use Rattle.lq_expr.specs.Spelled.{Gives};
 
 use crate::expr::{Expr, ExprFault};
 use crate::words::words;

@@ -2,7 +2,7 @@
 use Rattle.std.specs.Prelude.{List, codes, ℕ}
 use Rattle.lq_base.specs.declared.fault.KindFault.{KindFault}
 use Rattle.lq_base.specs.declared.fault.KindFault.TheVariants as kind
-use Rattle.lq_report.specs.Log.{dialect_fault_line, file_fault_line, fixed_line, key_fault_line, line_fault_line, no_file_line}
+use Rattle.lq_report.specs.Output.{dialect_fault_line, file_fault_line, fixed_line, key_fault_line, line_fault_line, no_file_line}
 use Rattle.lq_report.specs.declared.fixed.FixedLine.TheVariants as fixed
 use Rattle.lq_sources.specs.declared.fault.LoadFault.{LoadFault}
 use Rattle.lq_sources.specs.declared.fault.LoadFault.TheVariants as load

@@ -1,6 +1,6 @@
 ghost use Rattle.std.specs.Prelude.{◌≡◌, ◌++◌, OnOk};
 ghost use Rattle.lq_faultlog.specs.Lines.{load_fault_line, rule_line, what_line};
-ghost use Rattle.lq_report.specs.Log.{fixed_line};
+ghost use Rattle.lq_report.specs.Output.{fixed_line};
 
 use lq_base::{KindFault, NoMemory, Text};
 use lq_report::{

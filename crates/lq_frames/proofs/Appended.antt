@@ -8,10 +8,7 @@ use Rattle.lq_base.specs.declared.dialect.Dialect.TheVariants.{Postgresql, Mysql
 use Rattle.lq_frames.specs.declared.entry.Body.{Body}
 use Rattle.lq_frames.specs.declared.entry.Body.TheVariants.{State}
 use Rattle.lq_frames.specs.declared.entry.Entry.{Entry}
-use Rattle.lq_frames.specs.Body.{number, front_number, body_of, entry_of, as_body, IsRight}
-use Rattle.lq_frames.specs.Frames.{entries_from, header, frames_of, frames, IsEntry, AreEntries}
-use Rattle.lq_frames.specs.Journal.{body_in, placed, read_frames, journal_of, with_last}
-use Rattle.lq_frames.specs.State.{Holds}
+use Rattle.lq_frames.specs.Body.{number, front_number, body_of, entry_of, as_body, IsRight, entries_from, header, frames_of, frames, IsEntry, AreEntries, body_in, placed, read_frames, journal_of, with_last, Holds}
 use Rattle.lq_frames.proofs.Frames.{reads_back, frames-last, all-last}
 use Rattle.lq_frames.proofs.Numbers.{number-length, front_number-number}
 use Rattle.lq_frames.proofs.Texts.{body_reads_back}

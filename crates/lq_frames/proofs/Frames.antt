@@ -3,8 +3,7 @@ use Rattle.std.proofs.Common.{◌≡◌, ◌+◌, ◌<◌, inl, inr, ℕ, suc, B
 use Rattle.std.proofs.lemmas.Bool.{cases_eq}
 use Rattle.std.proofs.lemmas.Bool.Decides.{nat_tests}
 use Rattle.std.proofs.lemmas.List.{append_assoc, append-nil, take_at}
-use Rattle.lq_frames.specs.Body.{is_body}
-use Rattle.lq_frames.specs.Frames.{entry_len, begins, with_first, entries_from, frames, IsEntry, AreEntries}
+use Rattle.lq_frames.specs.Body.{is_body, entry_len, begins, with_first, entries_from, frames, IsEntry, AreEntries}
 use Rattle.lq_frames.proofs.Numbers.{front_number-append}
 
 entry_front : (entry rest : List ℕ) → IsEntry entry → entry_len (entry ++ rest) ≡ length entry

@@ -5,8 +5,7 @@ use Rattle.std.specs.Str.{is_utf8}
 use Rattle.std.proofs.lemmas.List.{append_assoc, append-nil, map-append, take_at, take_all, drop_at}
 use Rattle.lq_frames.specs.declared.entry.Body.{Body}
 use Rattle.lq_frames.specs.declared.entry.Body.TheVariants.{State, Texts}
-use Rattle.lq_frames.specs.Body.{number, front_number, framed_texts, body_of, entry_of, size_of, with_text, texts_from, if_any, as_body, is_body, AreTexts, IsRight}
-use Rattle.lq_frames.specs.Entry.{texts_by, IsEncoded, state_in}
+use Rattle.lq_frames.specs.Body.{number, front_number, framed_texts, body_of, entry_of, size_of, with_text, texts_from, if_any, as_body, is_body, AreTexts, IsRight, texts_by, IsEncoded, state_in}
 use Rattle.lq_frames.proofs.Numbers.{number-length, front_number-number}
 
 pub passes_text : (over bytes : List ℕ) → texts_from (length over) (over ++ bytes) ≡ texts_from 0 bytes

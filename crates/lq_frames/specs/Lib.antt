@@ -1,5 +1,1 @@
 pub mod Body
-pub mod Entry
-pub mod Frames
-pub mod Journal
-pub mod State

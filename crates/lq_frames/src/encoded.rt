@@ -18,7 +18,7 @@ pub struct EncodedEntry {
 
 impl Model for EncodedEntry {
     ghost use Rattle.std.specs.Prelude.{List, ℕ, drop};
-    ghost use Rattle.lq_frames.specs.Entry.{texts_by, IsEncoded};
+    ghost use Rattle.lq_frames.specs.Body.{texts_by, IsEncoded};
 
     ghost Value = { List (List ℕ) };
 

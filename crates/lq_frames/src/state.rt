@@ -16,8 +16,7 @@ pub struct EncodedState {
 
 impl Model for EncodedState {
     ghost use Rattle.std.specs.Prelude.{◌≡◌, List, ℕ};
-    ghost use Rattle.lq_frames.specs.Body.{entry_of};
-    ghost use Rattle.lq_frames.specs.Entry.{state_in};
+    ghost use Rattle.lq_frames.specs.Body.{entry_of, state_in};
     ghost use Rattle.lq_frames.specs.declared.entry.Body.TheVariants.{State};
 
     ghost Value = { List ℕ };

@@ -4,13 +4,10 @@ use Rattle.std.specs.Option.{option_map}
 use Rattle.std.proofs.lemmas.Bool.{cases_eq}
 use Rattle.std.proofs.lemmas.List.{take_at, drop_at, drop-drop}
 use Rattle.lq_base.specs.declared.dialect.Dialect.{Dialect}
-use Rattle.lq_outside.specs.Bytes.{written, Torn, Tears}
-use Rattle.lq_outside.specs.Crash.{Crashes, LeavesOnly, Half, Settled}
+use Rattle.lq_outside.specs.Crash.{written, Torn, Tears, Crashes, LeavesOnly, Half, Settled}
 use Rattle.lq_outside.proofs.Moments.{then, weaker}
 use Rattle.lq_frames.specs.declared.entry.Body.{Body}
-use Rattle.lq_frames.specs.Frames.{header, frames}
-use Rattle.lq_frames.specs.Journal.{journal_of, IsSameOrMore, StandsForSameOrMore}
-use Rattle.lq_frames.specs.State.{Holds, Stands}
+use Rattle.lq_frames.specs.Body.{header, frames, journal_of, IsSameOrMore, StandsForSameOrMore, Holds, Stands}
 use Rattle.lq_gate.proofs.Written.{ends_with}
 use Rattle.lq_frames.proofs.Appended.{Closed, header-length, journal_is, room, open_holds, with_more}
 use Rattle.lq_gate.proofs.Gated.{staged}

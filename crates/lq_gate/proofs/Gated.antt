@@ -2,11 +2,9 @@
 use Rattle.std.proofs.Common.{◌≡◌, ◌+◌, ◌-◌, ◌≤◌, ℕ, true, List, [], ◌∷◌, ◌++◌, length, drop, Option, None, Some, IfSome, sym, ◌∙◌, ap, subst, arith, length-append}
 use Rattle.std.specs.Option.{option_map}
 use Rattle.lq_base.specs.declared.dialect.Dialect.{Dialect}
-use Rattle.lq_outside.specs.Bytes.{written}
+use Rattle.lq_outside.specs.Crash.{written}
 use Rattle.lq_frames.specs.declared.entry.Body.{Body}
-use Rattle.lq_frames.specs.Frames.{header, frames}
-use Rattle.lq_frames.specs.Journal.{journal_of, with_last}
-use Rattle.lq_frames.specs.State.{Holds, Stands}
+use Rattle.lq_frames.specs.Body.{header, frames, journal_of, with_last, Holds, Stands}
 use Rattle.lq_frames.proofs.Appended.{Closed, header-length, journal_is, open_holds, room, with_more}
 use Rattle.lq_gate.proofs.Written.{behind, opened}
 

@@ -1,5 +1,5 @@
 -- What a gate says.
-use Rattle.std.specs.Prelude.{◌≡◌, ℕ, List, ◌∷◌}
+use Rattle.std.specs.Prelude.{List, ℕ, ◌∷◌, ◌≡◌}
 
 -- a closed gate
 pub record IsEnd (bytes : List ℕ) : Type 0 where

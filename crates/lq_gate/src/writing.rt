@@ -1,10 +1,7 @@
 ghost use Rattle.std.specs.Prelude.{◌≡◌, ◌+◌, ◌≤◌, IfSome, OnOk, OnErr, length, option_map, true};
-ghost use Rattle.lq_frames.specs.Body.{size_of};
-ghost use Rattle.lq_frames.specs.Journal.{journal_of, with_last, IsSameOrMore, StandsForSameOrMore};
-ghost use Rattle.lq_frames.specs.State.{Stands};
-ghost use Rattle.lq_outside.specs.Bytes.{Writes, Tears, Torn};
-ghost use Rattle.lq_outside.specs.Count.{CountsFault};
-ghost use Rattle.lq_outside.specs.Crash.{Settled, LeavesOnly, Half};
+ghost use Rattle.lq_frames.specs.Body.{size_of, journal_of, with_last, IsSameOrMore, StandsForSameOrMore, Stands};
+ghost use Rattle.lq_outside.specs.Crash.{Writes, Tears, Torn, Settled, LeavesOnly, Half};
+ghost use Rattle.lq_outside.specs.Forms.{CountsFault};
 
 use lq_base::Dialect;
 use lq_frames::Encoded;

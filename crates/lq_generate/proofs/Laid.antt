@@ -4,7 +4,7 @@ use Rattle.std.specs.Prelude.{Bool, true, false, if◌then◌else◌}
 use Rattle.lq_tree.specs.Items.{is_empty}
 use Rattle.lq_tree.specs.declared.node.Node.{Node}
 use Rattle.lq_generate.specs.Generated.{set_tree, set_trees}
-use Rattle.lq_generate.specs.Rows.{Row, present}
+use Rattle.lq_generate.specs.Types.{Row, present}
 
 abbrev pub Entries : Type 0
 Entries = List (List ℕ × Node)

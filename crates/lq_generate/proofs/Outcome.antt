@@ -5,9 +5,8 @@ use Rattle.lq_base.specs.declared.dialect.Dialect.{Dialect}
 use Rattle.lq_jsontext.specs.JsonText.{json_line}
 use Rattle.lq_model.specs.Catalogue.{Catalogue}
 use Rattle.lq_tree.specs.declared.node.Node.{Node}
-use Rattle.lq_generate.specs.Faults.{Place, fault_at, first_fault, place_text, size_fault}
+use Rattle.lq_generate.specs.Faults.{Place, fault_at, first_fault, place_text, size_fault, Generates, IsSized, Tells}
 use Rattle.lq_generate.specs.Generated.{generated_text, generated_tree}
-use Rattle.lq_generate.specs.Outcome.{Generates, IsSized, Tells}
 use Rattle.lq_generate.specs.declared.generating.GenerateFault.{GenerateFault}
 use Rattle.lq_generate.specs.declared.generating.GenerateFault.TheVariants.{NotWritable, OutOfMemory}
 

@@ -11,11 +11,11 @@ use Rattle.lq_base.specs.declared.name.Name.{Name}
 use Rattle.lq_model.proofs.Lists.{same_name}
 use Rattle.lq_model.proofs.Maps.{sorted-remove_entry}
 use Rattle.lq_model.specs.Catalogue.{Catalogue, Table}
-use Rattle.lq_parts.specs.Entries.{IsOrdered}
+use Rattle.lq_parts.specs.Taken.{IsOrdered}
 use Rattle.lq_track.specs.Database.{users_of}
 use Rattle.lq_track.specs.Lock.{lock_table}
 use Rattle.lq_track.specs.Log.{log_table}
-use Rattle.lq_generate.specs.Users.{untracked}
+use Rattle.lq_generate.specs.Generated.{untracked}
 
 first : (a b : Bool) → T (a && b) → T a
 first true b p = tt

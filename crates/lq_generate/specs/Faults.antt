@@ -1,20 +1,27 @@
 -- What of a catalogue cannot be written as a changelog, and where.
+use Rattle.std.specs.Borrow.{Bor}
 use Rattle.std.specs.List.{find, list_any}
-use Rattle.std.specs.Option.{option_map, option_or}
-use Rattle.std.specs.Prelude.{Bool, List, None, Option, Some, [], codes, cond, false, if◌then◌else◌, int_le, int_lt, length, nat_le, nat_lt, neg_ℤ, not, pos, true, ℕ, ℤ, ◌&&◌, ◌++◌, ◌^◌, ◌∷◌, ◌||◌}
+use Rattle.std.specs.Option.{option_copied, option_map, option_or}
+use Rattle.std.specs.Prelude.{Bool, Err, List, None, Ok, Option, Result, Some, [], codes, cond, false, if◌then◌else◌, int_le, int_lt, length, map, nat_le, nat_lt, neg_ℤ, not, pos, true, ℕ, ℤ, ⊤, ◌&&◌, ◌++◌, ◌^◌, ◌||◌, ◌∷◌, ◌≡◌}
 use Rattle.std.specs.Str.{bytes_eq}
 use Rattle.lq_base.specs.Name.{is_elsewhere, schema_of, text_of}
 use Rattle.lq_base.specs.declared.dialect.Dialect.{Dialect}
 use Rattle.lq_base.specs.declared.name.Name.{Name}
 use Rattle.lq_base.specs.declared.value.Value.{Value}
 use Rattle.lq_base.specs.declared.value.Value.TheVariants as value
+use Rattle.lq_generate.specs.Generated.{generated_text, generated_tree, is_numbered}
+use Rattle.lq_generate.specs.declared.generating.GenerateFault.{GenerateFault}
+use Rattle.lq_generate.specs.declared.generating.GenerateFault.TheVariants.{NotWritable, OutOfMemory}
+use Rattle.lq_jsontext.specs.JsonText.{IsWritable}
 use Rattle.lq_model.specs.Catalogue.{Catalogue, Sequence, Table, View}
 use Rattle.lq_model.specs.declared.column.Column.{Column}
 use Rattle.lq_model.specs.declared.constraint.ForeignKey.{ForeignKey}
 use Rattle.lq_model.specs.declared.constraint.Key.{Key}
 use Rattle.lq_model.specs.declared.constraint.Unique.{Unique}
-use Rattle.lq_tree.specs.Blanks.{is_comma, without_blanks}
-use Rattle.lq_generate.specs.Generated.{generated_text, is_numbered}
+use Rattle.lq_parts.specs.Steps.{Entries}
+use Rattle.lq_rows.specs.Stored.{Stored}
+use Rattle.lq_tree.specs.Given.{is_comma, without_blanks}
+use Rattle.lq_tree.specs.Json.{json_tree}
 
 -- an object, and the column of it if it is one of these
 abbrev pub Place : Type 0
@@ -100,3 +107,41 @@ size_fault text = if nat_lt 16777216 (length text) then Some (codes "the changel
 -- what cannot be written: an object, a column of one, or all of it
 abbrev pub fault_at : Dialect → List ℕ → Catalogue → Option (List ℕ)
 fault_at d author c = option_or (option_map place_text (first_fault c)) (size_fault (generated_text d author c))
+
+-- What the generating of a changelog answers.
+
+-- the text where nothing of the catalogue is in the way, and else what is, the first
+abbrev pub Generates : Dialect → List ℕ → Catalogue → Result (List ℕ) GenerateFault → Type 0
+Generates d author c (Ok text) = (fault_at d author c ≡ None) × (text ≡ generated_text d author c)
+Generates d author c (Err (NotWritable at)) = fault_at d author c ≡ Some at
+Generates d author c (Err OutOfMemory) = ⊤
+
+-- a text that is not too long
+abbrev pub IsSized : List ℕ → Result (List ℕ) GenerateFault → Type 0
+IsSized whole (Ok text) = (size_fault whole ≡ None) × (text ≡ whole)
+IsSized whole (Err (NotWritable at)) = size_fault whole ≡ Some at
+IsSized whole (Err OutOfMemory) = ⊤
+
+-- the fault that tells a place
+abbrev pub Tells : List ℕ → GenerateFault → Type 0
+Tells at (NotWritable told) = told ≡ at
+Tells at OutOfMemory = ⊤
+
+-- the text is read as the tree that it was made from
+abbrev pub IsReadBack : Dialect → List ℕ → Catalogue → List ℕ → Type 0
+IsReadBack d author c text = IsWritable (generated_tree d author c) → json_tree text ≡ Ok (generated_tree d author c)
+
+-- What is handed about by reference, as contracts see it.
+
+-- a table with its name
+abbrev pub table_in : Name × Stored → Name × Table
+table_in e = (e.0, e.1.now)
+
+abbrev pub tables_in : List (Bor (Name × Stored)) → List (Name × Table)
+tables_in es = map (λ e. table_in e.now) es
+
+abbrev pub place_in : Bor Name × Option (Bor Name) → Place
+place_in p = (p.0.now, option_copied p.1)
+
+abbrev pub with_tables : Catalogue → List (Name × Table) → Catalogue
+with_tables c ts = record c { tables = ts }

@@ -1,8 +1,11 @@
 -- The changelog that makes a catalogue without its rows, as a tree and as a text.
 use Rattle.std.specs.List.{flat_map, list_any}
-use Rattle.std.specs.Prelude.{Bool, List, None, Option, Some, [], codes, cond, if◌then◌else◌, map, ℕ, ◌++◌, ◌∷◌}
+use Rattle.std.specs.Prelude.{Bool, List, None, Option, Some, [], codes, cond, filter, if◌then◌else◌, map, not, ℕ, ◌++◌, ◌||◌, ◌∷◌}
+use Rattle.lq_base.specs.Name.{is_named}
 use Rattle.lq_base.specs.declared.dialect.Dialect.{Dialect}
 use Rattle.lq_base.specs.declared.name.Name.{Name}
+use Rattle.lq_generate.specs.Created.{created_tree, foreign_tree, index_tree, key_tree, sequence_tree, unique_tree, view_tree}
+use Rattle.lq_generate.specs.Types.{Row, map_node, under}
 use Rattle.lq_jsontext.specs.JsonText.{json_line}
 use Rattle.lq_model.specs.Catalogue.{Catalogue, Sequence, Table, View}
 use Rattle.lq_model.specs.declared.column.Column.{Column}
@@ -10,11 +13,10 @@ use Rattle.lq_model.specs.declared.constraint.ForeignKey.{ForeignKey}
 use Rattle.lq_model.specs.declared.constraint.Key.{Key}
 use Rattle.lq_model.specs.declared.constraint.Unique.{Unique}
 use Rattle.lq_model.specs.declared.index.Index.{Index}
+use Rattle.lq_track.specs.Lock.{lock_table}
+use Rattle.lq_track.specs.Log.{log_table}
 use Rattle.lq_tree.specs.Items.{is_empty}
 use Rattle.lq_tree.specs.declared.node.Node.{List as ListNode, Node, Text as TextNode}
-use Rattle.lq_generate.specs.Added.{foreign_tree, index_tree, key_tree, sequence_tree, unique_tree, view_tree}
-use Rattle.lq_generate.specs.Created.{created_tree}
-use Rattle.lq_generate.specs.Rows.{Row, map_node, under}
 
 -- a change as an item of a changeset's list
 
@@ -96,3 +98,11 @@ generated_tree d author c = under (codes "databaseChangeLog") (ListNode (set_tre
 -- what is printed
 abbrev pub generated_text : Dialect → List ℕ → Catalogue → List ℕ
 generated_text d author c = json_line (generated_tree d author c)
+
+-- The tables other than the tracking tables.
+
+abbrev pub is_tracking_table : Name → Bool
+is_tracking_table t = is_named log_table t || is_named lock_table t
+
+abbrev pub untracked : List (Name × Table) → List (Name × Table)
+untracked ts = filter (λ (e : Name × Table). not (is_tracking_table e.0)) ts

@@ -1,9 +1,4 @@
-pub mod Rows
 pub mod Types
 pub mod Created
-pub mod Added
 pub mod Generated
 pub mod Faults
-pub mod Seen
-pub mod Users
-pub mod Outcome

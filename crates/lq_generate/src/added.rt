@@ -1,7 +1,7 @@
 ghost use Rattle.std.specs.List.{flat_map};
 ghost use Rattle.std.specs.Prelude.{◌++◌, ◌≡◌, IfOk, map};
-ghost use Rattle.lq_generate.specs.Added.{after_comma, foreign_front, foreign_tree, if_cascade, index_column_tree, index_tree, key_tree, listed, sequence_tree, unique_tree, view_tree};
-ghost use Rattle.lq_generate.specs.Rows.{present};
+ghost use Rattle.lq_generate.specs.Created.{after_comma, foreign_front, foreign_tree, if_cascade, index_column_tree, index_tree, key_tree, listed, sequence_tree, unique_tree, view_tree};
+ghost use Rattle.lq_generate.specs.Types.{present};
 ghost use Rattle.lq_tree.specs.declared.node.Node.{Text as TextNode, Whole as WholeNode};
 
 use crate::created::named_in;

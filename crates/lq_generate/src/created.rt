@@ -3,8 +3,7 @@ ghost use Rattle.std.specs.Prelude.{None, Some, [], codes, false, if◌then◌el
 ghost use Rattle.lq_tree.specs.declared.node.Node.{Text as TextNode, Truth as TruthNode};
 ghost use Rattle.lq_base.specs.Number.{fixed_text};
 ghost use Rattle.lq_generate.specs.Created.{column_rows, column_tree, constraints_at, constraints_rows, created_tree, date_text, default_rows, key_name_of, named_in};
-ghost use Rattle.lq_generate.specs.Types.{type_text};
-ghost use Rattle.lq_generate.specs.Rows.{map_node, present};
+ghost use Rattle.lq_generate.specs.Types.{type_text, map_node, present};
 
 use crate::kinds::type_text;
 use crate::rows::{true_if, under, with_name, with_node, with_schema, with_some, with_text};

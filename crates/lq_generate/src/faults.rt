@@ -2,10 +2,9 @@ ghost use Rattle.std.specs.List.{find, list_any};
 ghost use Rattle.std.specs.Option.{option_copied, option_map, option_or};
 ghost use Rattle.std.specs.Prelude.{not, ◌≡◌, ◌||◌, IfOk};
 ghost use Rattle.lq_base.specs.Name.{is_elsewhere};
-ghost use Rattle.lq_generate.specs.Faults.{added_fault, created_fault, first_fault, first_of, first_sequence, first_view, foreign_fault, foreign_faults, is_long, is_lost, is_out, is_unwritten, first_table, key_fault, listed_fault, may_be_listed, own_key_fault, place_text, shown};
-ghost use Rattle.lq_tree.specs.Blanks.{is_comma, without_blanks};
+ghost use Rattle.lq_generate.specs.Faults.{added_fault, created_fault, first_fault, first_of, first_sequence, first_view, foreign_fault, foreign_faults, is_long, is_lost, is_out, is_unwritten, first_table, key_fault, listed_fault, may_be_listed, own_key_fault, place_text, shown, place_in, table_in, tables_in, with_tables};
+ghost use Rattle.lq_tree.specs.Given.{is_comma, without_blanks};
 ghost use Rattle.std.specs.Str.{bytes_eq};
-ghost use Rattle.lq_generate.specs.Seen.{place_in, table_in, tables_in, with_tables};
 
 use crate::sets::is_numbered;
 use lq_base::{Name, NoMemory, Text, Value};

@@ -1,10 +1,8 @@
 ghost use Rattle.std.specs.Prelude.{None, Ok, Some, ◌≡◌, IfOk};
 ghost use Rattle.lq_generate.specs.Generated.{first_sets, generated_tree, set_trees};
-ghost use Rattle.lq_generate.specs.Faults.{first_fault, place_text};
-ghost use Rattle.lq_generate.specs.Outcome.{Generates, IsReadBack, IsSized, Tells};
-ghost use Rattle.lq_generate.specs.Seen.{place_in, tables_in, with_tables};
+ghost use Rattle.lq_generate.specs.Faults.{first_fault, place_text, Generates, IsReadBack, IsSized, Tells, place_in, tables_in, with_tables};
 ghost use Rattle.lq_jsontext.specs.JsonText.{IsWritable, json_line};
-ghost use Rattle.lq_parts.specs.Entries.{IsOrdered};
+ghost use Rattle.lq_parts.specs.Taken.{IsOrdered};
 ghost use Rattle.lq_track.specs.Database.{users_of};
 ghost use Rattle.lq_tree.specs.Json.{json_tree};
 

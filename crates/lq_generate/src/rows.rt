@@ -2,7 +2,7 @@ ghost use Rattle.std.specs.Option.{option_copied, option_map};
 ghost use Rattle.std.specs.Prelude.{[], ◌++◌, ◌∷◌, ◌≡◌, IfOk};
 ghost use Rattle.lq_tree.specs.declared.node.Node.{Text as TextNode};
 ghost use Rattle.lq_generate.specs.Created.{if_true};
-ghost use Rattle.lq_generate.specs.Rows.{present, schema_at, under};
+ghost use Rattle.lq_generate.specs.Types.{present, schema_at, under};
 
 use lq_base::{Items, Name, NoMemory, Text};
 use lq_tree::Node;

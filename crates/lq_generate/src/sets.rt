@@ -2,7 +2,7 @@ ghost use Rattle.std.specs.List.{flat_map, list_any};
 ghost use Rattle.std.specs.Option.{option_copied};
 ghost use Rattle.std.specs.Prelude.{[], codes, ◌++◌, ◌∷◌, ◌≡◌, IfOk, map};
 ghost use Rattle.lq_generate.specs.Generated.{added_items, five_sets, foreign_item, foreign_items, index_item, is_numbered, key_items, own_key_items, sequence_item, set_tree, set_trees, table_item, unique_item, view_item};
-ghost use Rattle.lq_generate.specs.Seen.{table_in, tables_in};
+ghost use Rattle.lq_generate.specs.Faults.{table_in, tables_in};
 ghost use Rattle.lq_tree.specs.Items.{is_empty};
 
 use crate::added::{foreign_tree, index_tree, key_tree, sequence_tree, unique_tree, view_tree};

@@ -1,8 +1,8 @@
 ghost use Rattle.std.specs.Prelude.{◌≡◌, IfOk, map};
 ghost use Rattle.lq_base.specs.Name.{is_named};
-ghost use Rattle.lq_generate.specs.Seen.{table_in, tables_in};
-ghost use Rattle.lq_generate.specs.Users.{is_tracking_table, untracked};
-ghost use Rattle.lq_parts.specs.Entries.{IsOrdered};
+ghost use Rattle.lq_generate.specs.Faults.{table_in, tables_in};
+ghost use Rattle.lq_generate.specs.Generated.{is_tracking_table, untracked};
+ghost use Rattle.lq_parts.specs.Taken.{IsOrdered};
 ghost use Rattle.lq_track.specs.Database.{users_of};
 ghost use Rattle.lq_track.specs.Lock.{lock_table};
 ghost use Rattle.lq_track.specs.Log.{log_table};

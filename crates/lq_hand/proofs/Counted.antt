@@ -8,12 +8,10 @@ use Rattle.lq_base.specs.declared.dialect.Dialect.{Dialect}
 use Rattle.lq_base.specs.declared.reason.Reason.{Reason}
 use Rattle.lq_base.specs.declared.tracking.Tracked.{Tracked}
 use Rattle.lq_model.specs.Catalogue.{Catalogue}
-use Rattle.lq_model.specs.Commits.{commits_itself}
-use Rattle.lq_model.specs.Step.{step}
+use Rattle.lq_model.specs.Step.{commits_itself, step}
 use Rattle.lq_model.specs.declared.caller.By.TheVariants.{User}
 use Rattle.lq_model.specs.declared.statement.Statement.{Statement}
-use Rattle.lq_turns.specs.Contents.{Contents}
-use Rattle.lq_turns.specs.Deed.{if_accepted, rows_after}
+use Rattle.lq_turns.specs.Deed.{Contents, if_accepted, rows_after}
 use Rattle.lq_turns.specs.Turn.{Course, Ending, Finished, Refused, Stuck, Through, apart, course, ending, is_marked, kept, led_by, mark, refused, row_calls, row_ending, statement_calls, turn_calls, unmark, up_to_last, within}
 use Rattle.lq_turns.specs.declared.call.Call.{Call}
 use Rattle.lq_turns.specs.declared.call.Call.TheVariants.{Begin, Commit, Execute}
@@ -21,8 +19,7 @@ use Rattle.lq_turns.specs.declared.deed.Deed.TheVariants.{Locks, Rows, Users}
 use Rattle.lq_turns.specs.declared.deed.OnLock.TheVariants.{Marked}
 use Rattle.lq_turns.specs.declared.stop.Refusal.{Refusal}
 use Rattle.lq_turns.specs.declared.turn.Turn.{Turn}
-use Rattle.lq_hand.specs.Counts.{no_progress, one_more, refusal_at, with_accepted, with_refused}
-use Rattle.lq_hand.specs.Way.{refusal_at_end, refused_by, refused_in}
+use Rattle.lq_hand.specs.Way.{no_progress, one_more, refusal_at, with_accepted, with_refused, refusal_at_end, refused_by, refused_in}
 use Rattle.lq_hand.specs.declared.progress.Coming.TheVariants as coming
 use Rattle.lq_hand.specs.declared.progress.Progress.{Progress}
 

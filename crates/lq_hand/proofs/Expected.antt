@@ -5,14 +5,13 @@ use Rattle.lq_base.specs.declared.dialect.Dialect.{Dialect}
 use Rattle.lq_model.specs.Catalogue.{Catalogue}
 use Rattle.lq_turns.proofs.Entered.{accepted_is, is_finished}
 use Rattle.lq_turns.proofs.TurnLeft.{turn_goes}
-use Rattle.lq_turns.specs.Contents.{Contents}
-use Rattle.lq_turns.specs.Goes.{Both, are_accepted, went}
+use Rattle.lq_turns.specs.Deed.{Contents}
+use Rattle.lq_turns.specs.Session.{Both, are_accepted, went}
 use Rattle.lq_turns.specs.Turn.{Ending, Finished, Refused, contents_in, ending, turn_calls}
 use Rattle.lq_turns.specs.declared.call.Call.{Call}
 use Rattle.lq_turns.specs.declared.stop.Refusal.{Refusal}
 use Rattle.lq_turns.specs.declared.turn.Turn.{Turn}
-use Rattle.lq_hand.specs.Counts.{no_progress}
-use Rattle.lq_hand.specs.Way.{Expects, Way, refusal_at_end, refused_in, seen_along, sights}
+use Rattle.lq_hand.specs.Way.{no_progress, Expects, Way, refusal_at_end, refused_in, seen_along, sights}
 use Rattle.lq_hand.proofs.Sighted.{turn_seen}
 
 -- it awaits the contents of a turn that finishes, and yields to the refusal of one that is refused

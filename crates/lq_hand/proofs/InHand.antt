@@ -4,15 +4,14 @@ use Rattle.std.proofs.lemmas.List.{reverse-append}
 use Rattle.std.specs.List.{list_all}
 use Rattle.std.specs.Prelude.{Bool, List, [], false, if◌then◌else◌, refl, reverse, true, ℕ, ◌++◌, ◌∷◌, ◌≡◌}
 use Rattle.lq_base.specs.declared.dialect.Dialect.{Dialect}
-use Rattle.lq_model.specs.Statement.{is_statement}
+use Rattle.lq_model.specs.Step.{is_statement}
 use Rattle.lq_turns.specs.Turn.{row_calls, statement_calls, turn_calls}
 use Rattle.lq_turns.specs.declared.call.Call.{Call}
 use Rattle.lq_turns.specs.declared.call.Call.TheVariants.{Begin}
 use Rattle.lq_turns.specs.declared.deed.Deed.TheVariants.{Rows}
 use Rattle.lq_turns.specs.declared.turn.Turn.{Turn}
-use Rattle.lq_hand.specs.Enters.{IsTurn}
-use Rattle.lq_hand.specs.Hand.{AreTurns}
-use Rattle.lq_hand.specs.Writable.{IsWritable}
+use Rattle.lq_hand.specs.Way.{IsTurn}
+use Rattle.lq_hand.specs.Hand.{AreTurns, IsWritable}
 use Rattle.lq_hand.specs.declared.hand.Phase.TheVariants.{Inside}
 use Rattle.lq_hand.proofs.WellTurned.{turn_well}
 

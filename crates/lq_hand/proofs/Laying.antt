@@ -12,7 +12,7 @@ use Rattle.lq_turns.specs.declared.deed.Deed.TheVariants.{Locks, Rows, Users}
 use Rattle.lq_turns.specs.declared.deed.OnLock.TheVariants.{Marked}
 use Rattle.lq_turns.specs.declared.deed.OnRows.TheVariants.{Deleted}
 use Rattle.lq_turns.specs.declared.turn.Turn.{Turn}
-use Rattle.lq_hand.specs.TurnCalls.{Lays, LaysLast, LaysOne, begun_calls, calls_to_row, if_wanted, marked_calls, turn_of}
+use Rattle.lq_hand.specs.Hand.{Lays, LaysLast, LaysOne, begun_calls, calls_to_row, if_wanted, marked_calls, turn_of}
 use Rattle.lq_hand.specs.declared.marking.Marking.{Marking}
 
 pub pushed : (call : Call) (before after : List Call) → after ≡ before ++ call ∷ [] → Lays (call ∷ []) before after

@@ -7,12 +7,10 @@ use Rattle.lq_base.specs.declared.dialect.Dialect.{Dialect}
 use Rattle.lq_base.specs.declared.reason.Reason.{Reason}
 use Rattle.lq_base.specs.declared.tracking.Tracked.{Tracked}
 use Rattle.lq_model.specs.Catalogue.{Catalogue}
-use Rattle.lq_model.specs.Commits.{commits_itself}
-use Rattle.lq_model.specs.Step.{step}
+use Rattle.lq_model.specs.Step.{commits_itself, step}
 use Rattle.lq_model.specs.declared.caller.By.TheVariants.{User}
 use Rattle.lq_model.specs.declared.statement.Statement.{Statement}
-use Rattle.lq_turns.specs.Contents.{Contents}
-use Rattle.lq_turns.specs.Deed.{if_accepted, rows_after}
+use Rattle.lq_turns.specs.Deed.{Contents, if_accepted, rows_after}
 use Rattle.lq_turns.specs.Turn.{apart, is_marked, mark, row_calls, statement_calls, turn_calls, unmark, within}
 use Rattle.lq_turns.specs.declared.call.Call.{Call}
 use Rattle.lq_turns.specs.declared.call.Call.TheVariants.{Begin, Commit, Execute}

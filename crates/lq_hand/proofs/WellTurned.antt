@@ -5,8 +5,7 @@ use Rattle.std.specs.List.{list_all, list_any}
 use Rattle.std.specs.Prelude.{Bool, List, [], false, if◌then◌else◌, refl, suc, true, ℕ, ◌++◌, ◌∷◌, ◌≡◌}
 use Rattle.lq_base.specs.declared.dialect.Dialect.{Dialect}
 use Rattle.lq_model.proofs.Lists.{and_left, and_right}
-use Rattle.lq_model.specs.Commits.{commits_itself}
-use Rattle.lq_model.specs.Statement.{is_statement}
+use Rattle.lq_model.specs.Step.{commits_itself, is_statement}
 use Rattle.lq_model.specs.declared.statement.Statement.{Statement}
 use Rattle.lq_turns.specs.Turn.{apart, is_marked, mark, row_calls, statement_calls, turn_calls, within}
 use Rattle.lq_turns.specs.declared.call.Call.{Call}
@@ -14,8 +13,7 @@ use Rattle.lq_turns.specs.declared.call.Call.TheVariants.{Begin, Commit, Execute
 use Rattle.lq_turns.specs.declared.deed.Deed.TheVariants.{Locks, Rows, Users}
 use Rattle.lq_turns.specs.declared.deed.OnLock.TheVariants.{Marked}
 use Rattle.lq_turns.specs.declared.turn.Turn.{Turn}
-use Rattle.lq_hand.specs.Writable.{IsWritable}
-use Rattle.lq_hand.specs.Hand.{AreTurns}
+use Rattle.lq_hand.specs.Hand.{IsWritable, AreTurns}
 
 module _ (d : Dialect) (who : List ℕ) (turn : Turn) where
   step_well : (whole own : Bool) (k : ℕ) (s : Statement) (more : List Call) → is_statement d s ≡ true → AreTurns d whole more

@@ -1,12 +1,9 @@
 ghost use Rattle.std.specs.List.{list_all};
 ghost use Rattle.std.specs.Prelude.{◌≡◌, IfOk, true};
-ghost use Rattle.lq_hand.specs.Counts.{no_progress};
-ghost use Rattle.lq_hand.specs.Enters.{IsTurn};
-ghost use Rattle.lq_hand.specs.Hand.{calls_left};
-ghost use Rattle.lq_hand.specs.Way.{refusal_at_end, refused_in, seen_along, sights};
-ghost use Rattle.lq_hand.specs.Writable.{IsWritable};
-ghost use Rattle.lq_model.specs.Statement.{is_statement};
-ghost use Rattle.lq_turns.specs.Contents.{Contents};
+ghost use Rattle.lq_hand.specs.Way.{no_progress, IsTurn, refusal_at_end, refused_in, seen_along, sights};
+ghost use Rattle.lq_hand.specs.Hand.{calls_left, IsWritable};
+ghost use Rattle.lq_model.specs.Step.{is_statement};
+ghost use Rattle.lq_turns.specs.Deed.{Contents};
 ghost use Rattle.lq_turns.specs.Turn.{ending, turn_calls};
 ghost use Rattle.lq_turns.specs.declared.deed.Deed.TheVariants.{Rows};
 

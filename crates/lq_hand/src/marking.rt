@@ -1,5 +1,5 @@
 ghost use Rattle.std.specs.Prelude.{◌≡◌, [], codes, if◌then◌else◌, IfOk};
-ghost use Rattle.lq_hand.specs.TurnCalls.{turn_of};
+ghost use Rattle.lq_hand.specs.Hand.{turn_of};
 ghost use Rattle.lq_turns.specs.Turn.{mark_text};
 
 use lq_base::{Dialect, Identity, NoMemory, Text, append_whole};

@@ -1,6 +1,6 @@
 ghost use Rattle.std.specs.Prelude.{◌≡◌};
 ghost use Rattle.lq_hand.specs.Hand.{calls_left};
-ghost use Rattle.lq_hand.specs.Counts.{coming_of, first_coming, no_progress, one_more, refusal_at, with_accepted, with_refused};
+ghost use Rattle.lq_hand.specs.Way.{coming_of, first_coming, no_progress, one_more, refusal_at, with_accepted, with_refused};
 ghost use Rattle.lq_hand.specs.declared.progress.Coming.TheVariants.{Statement};
 ghost use Rattle.lq_turns.specs.declared.call.Call.TheVariants.{Execute};
 

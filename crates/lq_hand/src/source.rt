@@ -1,8 +1,7 @@
 ghost use Rattle.std.specs.Prelude.{◌≡◌, ◌≤◌, [], List};
 ghost use Rattle.lq_base.specs.declared.dialect.Dialect.{Dialect};
-ghost use Rattle.lq_hand.specs.Enters.{Enters};
-ghost use Rattle.lq_hand.specs.Way.{GivesUp, Looks, Way};
-ghost use Rattle.lq_turns.specs.Contents.{Contents};
+ghost use Rattle.lq_hand.specs.Way.{Enters, GivesUp, Looks, Way};
+ghost use Rattle.lq_turns.specs.Deed.{Contents};
 ghost use Rattle.lq_turns.specs.declared.stamp.Stamp.{Stamp};
 
 use crate::hand::Hand;

@@ -1,6 +1,6 @@
 ghost use Rattle.std.specs.List.{list_any};
 ghost use Rattle.std.specs.Prelude.{◌≡◌, ◌≢◌, ◌++◌, ◌∷◌, [], IfOk, OnOk, false, reverse, true};
-ghost use Rattle.lq_hand.specs.TurnCalls.{Lays, LaysLast, LaysOne, begun_calls, calls_to_row, if_wanted, marked_calls, turn_of};
+ghost use Rattle.lq_hand.specs.Hand.{Lays, LaysLast, LaysOne, begun_calls, calls_to_row, if_wanted, marked_calls, turn_of};
 ghost use Rattle.lq_turns.specs.Turn.{is_marked, mark, turn_calls, unmark};
 ghost use Rattle.lq_turns.specs.declared.call.Call.TheVariants as call;
 ghost use Rattle.lq_turns.specs.declared.deed.Deed.TheVariants as deed;

@@ -1,5 +1,5 @@
 -- Of a real disk nothing is known: neither its bytes nor what a crash leaves of them.
-use Rattle.std.specs.Prelude.{false, None}
+use Rattle.std.specs.Prelude.{List, None, [], false, ℕ, ◌++◌, ◌∷◌}
 use Rattle.lq_outside.specs.Crash.{Crashes, IsSound}
 
 abbrev pub unknown : Crashes
@@ -12,3 +12,10 @@ unknown_sound = record {
   past_syncs = λ _ t synced. absurd synced;
   only_now = λ _ c left. absurd left;
 }
+
+-- The path of what lies in a folder.
+
+-- the folder, a slash and the name; in the current folder, which has the empty text, the name alone
+abbrev pub joined : List ℕ → List ℕ → List ℕ
+joined [] name = name
+joined folder name = folder ++ 47 ∷ name

@@ -1,6 +1,6 @@
 // The database file.
 ghost use Rattle.std.specs.Prelude.{◌≡◌, None, IfOk, Option, Some, Ok};
-ghost use Rattle.lq_outside.specs.Count.{CountsFault};
+ghost use Rattle.lq_outside.specs.Forms.{CountsFault};
 ghost use Rattle.lq_host.specs.Host.{unknown, unknown_sound};
 
 use lq_outside::{Disk, DiskFailed};

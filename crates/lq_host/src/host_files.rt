@@ -1,7 +1,6 @@
 // The files that changelogs are read from.
 ghost use Rattle.std.specs.Prelude.{◌≡◌, ◌≤◌, None, Ok, IfOk, IsErrOf, OnOk};
-ghost use Rattle.lq_outside.specs.Count.{Rose};
-ghost use Rattle.lq_outside.specs.Folder.{IsWithinLimit};
+ghost use Rattle.lq_outside.specs.Forms.{Rose, IsWithinLimit};
 ghost use Rattle.lq_outside.specs.declared.files.FilesFault.TheVariants.{Failed};
 
 use crate::walk::files_under;

@@ -1,6 +1,6 @@
 // All files under a folder.
 ghost use Rattle.std.specs.Prelude.{◌≡◌, IfOk};
-ghost use Rattle.lq_host.specs.Path.{joined};
+ghost use Rattle.lq_host.specs.Host.{joined};
 
 use lq_base::{Items, NoMemory, Text};
 use std::alloc::{AllocError, Global};

@@ -8,14 +8,11 @@ use Rattle.lq_base.specs.declared.dialect.Dialect.{Dialect}
 use Rattle.lq_frames.specs.declared.entry.Body.{Body}
 use Rattle.lq_frames.specs.declared.entry.Body.TheVariants.{State}
 use Rattle.lq_frames.specs.declared.entry.Entry.{Entry}
-use Rattle.lq_frames.specs.Body.{front_number, body_of, as_body, is_body, is_state, size_of}
-use Rattle.lq_frames.specs.Frames.{entry_len, begins, with_first, entries_from, header, frames, IsEntry, AreEntries}
-use Rattle.lq_frames.specs.Journal.{body_in, from_last_state, has_state, placed, read_frames, journal_of, used_by}
+use Rattle.lq_frames.specs.Body.{front_number, body_of, as_body, is_body, is_state, size_of, entry_len, begins, with_first, entries_from, header, frames, IsEntry, AreEntries, body_in, from_last_state, has_state, placed, read_frames, journal_of, used_by, Holds}
 use Rattle.lq_journal.specs.declared.fault.LoadFault.{LoadFault}
 use Rattle.lq_journal.specs.declared.fault.LoadFault.TheVariants.{Disk, Damaged, OutOfMemory}
 use Rattle.lq_journal.specs.Reading.{IsNext, IsRead, IsStepFault, IsReadFault, taken_up}
 use Rattle.lq_gate.specs.Gate.{IsEnd}
-use Rattle.lq_frames.specs.State.{Holds}
 use Rattle.lq_frames.proofs.Frames.{reads_front, with_front, front_fails, frames-last, all-last}
 use Rattle.lq_frames.proofs.Numbers.{front_number-append}
 use Rattle.lq_frames.proofs.Texts.{body_fills, entry_of-length}

@@ -3,17 +3,14 @@ use Rattle.std.proofs.Common.{◌≡◌, ◌+◌, ◌≤◌, inl, ℕ, Bool, tru
 use Rattle.std.specs.Option.{option_map}
 use Rattle.std.proofs.lemmas.List.{append-nil, drop_all}
 use Rattle.lq_base.specs.declared.dialect.Dialect.{Dialect}
-use Rattle.lq_outside.specs.Bytes.{written, Torn, Tears}
-use Rattle.lq_outside.specs.Crash.{Crashes, IsSound, LeavesOnly, Half, Settled}
+use Rattle.lq_outside.specs.Crash.{written, Torn, Tears, Crashes, IsSound, LeavesOnly, Half, Settled}
 use Rattle.lq_outside.proofs.Moments.{started, weaker}
 use Rattle.lq_journal.specs.declared.journal.Journal.{Journal}
 use Rattle.lq_journal.specs.declared.reading.Found.{Found}
 use Rattle.lq_frames.specs.declared.entry.Body.{Body}
-use Rattle.lq_frames.specs.Frames.{header, frames}
-use Rattle.lq_frames.specs.Journal.{journal_of, StandsForSame, StandsForSameOrMore}
+use Rattle.lq_frames.specs.Body.{header, frames, journal_of, StandsForSame, StandsForSameOrMore, Holds, Stands}
 use Rattle.lq_journal.specs.Reading.{FoundOn, IsRead}
 use Rattle.lq_journal.specs.State.{dialect_of, limit_of, used_of, is_prepared, IsLoaded, IsReady}
-use Rattle.lq_frames.specs.State.{Holds, Stands}
 use Rattle.lq_frames.proofs.Appended.{header-length}
 use Rattle.lq_journal.proofs.Entries.{short}
 

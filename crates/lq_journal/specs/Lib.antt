@@ -1,5 +1,2 @@
-pub mod AppendFault
-pub mod LoadFault
-pub mod Reading
 pub mod State
-pub mod Synced
+pub mod Reading

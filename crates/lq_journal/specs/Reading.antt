@@ -1,14 +1,33 @@
--- What reading the bytes of a journal gives.
-use Rattle.std.specs.Prelude.{◌≡◌, ◌+◌, ◌<◌, ◌≤◌, ℕ, List, [], ◌∷◌, ◌++◌, cond, drop, false, length, Ok, Err, Option, IfSome}
+-- When a journal is not loaded.
+use Rattle.std.specs.Prelude.{Err, IfSome, IsTrue, List, Ok, Option, [], cond, drop, false, length, ℕ, ◌++◌, ◌+◌, ◌<◌, ◌∷◌, ◌≡◌, ◌≤◌}
 use Rattle.lq_base.specs.declared.dialect.Dialect.{Dialect}
+use Rattle.lq_frames.specs.Body.{IsEntry, Stands, body_in, entries_from, from_last_state, has_state, is_state, journal_of, used_by}
 use Rattle.lq_frames.specs.declared.entry.Entry.{Entry}
 use Rattle.lq_journal.specs.declared.fault.LoadFault.{LoadFault}
-use Rattle.lq_journal.specs.declared.fault.LoadFault.TheVariants.{Disk, Damaged, OutOfMemory}
-use Rattle.lq_frames.specs.Body.{is_state}
-use Rattle.lq_frames.specs.Frames.{entries_from, IsEntry}
-use Rattle.lq_frames.specs.Journal.{body_in, from_last_state, has_state, journal_of, used_by}
-use Rattle.lq_frames.specs.State.{Stands}
+use Rattle.lq_journal.specs.declared.fault.LoadFault.TheVariants.{Damaged, Disk, OutOfMemory}
 use Rattle.lq_journal.specs.declared.reading.Found.{Found}
+use Rattle.lq_outside.specs.Crash.{Crashes}
+use Rattle.lq_outside.specs.Forms.{Rose}
+
+-- The disk's count of faults rose, or what the disk tells, if it does, is damaged at that very place, or want of memory.
+abbrev pub IsLoadFault : Dialect → ℕ → Option (List ℕ) → ℕ → ℕ → LoadFault → Type 0
+IsLoadFault dialect limit told before now Disk = Rose before now
+IsLoadFault dialect limit told before now (Damaged at) = IfSome told (λ bytes. journal_of dialect limit bytes ≡ Err at)
+IsLoadFault dialect limit told before now OutOfMemory = Unit {0}
+
+-- the same where only the size was looked at
+abbrev pub IsSizeFault : ℕ → Option (List ℕ) → ℕ → ℕ → LoadFault → Type 0
+IsSizeFault limit told before now Disk = Rose before now
+IsSizeFault limit told before now (Damaged at) = (at ≡ limit) × IfSome told (λ bytes. limit < length bytes)
+IsSizeFault limit told before now OutOfMemory = Unit {0}
+
+-- of a file that is longer than the limit: it is damaged there, unless the disk's count of faults rose
+abbrev pub IsLengthFault : ℕ → ℕ → ℕ → LoadFault → Type 0
+IsLengthFault limit before now Disk = Rose before now
+IsLengthFault limit before now (Damaged at) = at ≡ limit
+IsLengthFault limit before now OutOfMemory = ⊥
+
+-- What reading the bytes of a journal gives.
 
 -- behind an open gate stands an entry, and after it the next gate
 pub record IsNext (at : ℕ) (bytes : List ℕ) (entry : Entry) (after : List ℕ) : Type 0 where
@@ -53,3 +72,15 @@ pub record FoundOn (dialect : Dialect) (limit : ℕ) (told : Option (List ℕ)) 
   pub are : IfSome told (λ before. before ≡ bytes)
   pub within : length bytes ≤ limit
   pub is : IsFound dialect limit bytes found
+
+-- When a disk has been synced.
+
+-- a sync has succeeded since
+abbrev pub HasSynced : Crashes → Crashes → Type 0
+HasSynced before now = IsTrue before.is_honest → (t : ℕ) × (before.moment < t) × now.synced t
+
+-- one has, before this fault was found, unless the fault is the disk's
+abbrev pub HasSyncedBefore : LoadFault → Crashes → Crashes → Type 0
+HasSyncedBefore Disk before now = Unit {0}
+HasSyncedBefore (Damaged at) before now = HasSynced before now
+HasSyncedBefore OutOfMemory before now = HasSynced before now

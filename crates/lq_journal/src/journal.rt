@@ -1,14 +1,10 @@
 ghost use Rattle.std.specs.Prelude.{◌≡◌, ◌+◌, ◌<◌, ◌≤◌, ◌↔◌, [], ◌∷◌, ◌++◌, drop, false, IfSome, IfOk, IfErr, IsErrAnd, IsTrue, OnOk, OnErr, MatchResult, Ok, Err, length};
 ghost use Rattle.std.specs.Option.{option_map};
-ghost use Rattle.lq_outside.specs.Count.{CountsFault};
+ghost use Rattle.lq_outside.specs.Forms.{CountsFault};
 ghost use Rattle.lq_outside.specs.Crash.{Settled, LeavesOnly};
-ghost use Rattle.lq_frames.specs.Body.{size_of};
-ghost use Rattle.lq_frames.specs.Frames.{header};
-ghost use Rattle.lq_frames.specs.Journal.{has_state, journal_of, with_last, IsSameOrMore, StandsForSame, StandsForSameOrMore};
-ghost use Rattle.lq_journal.specs.LoadFault.{IsLengthFault, IsLoadFault, IsSizeFault};
-ghost use Rattle.lq_journal.specs.AppendFault.{end_of, IsAppendFault, IsFull};
-ghost use Rattle.lq_journal.specs.Reading.{FoundOn, IsRead};
-ghost use Rattle.lq_journal.specs.Synced.{HasSynced, HasSyncedBefore};
+ghost use Rattle.lq_frames.specs.Body.{size_of, header, has_state, journal_of, with_last, IsSameOrMore, StandsForSame, StandsForSameOrMore};
+ghost use Rattle.lq_journal.specs.Reading.{IsLengthFault, IsLoadFault, IsSizeFault, FoundOn, IsRead, HasSynced, HasSyncedBefore};
+ghost use Rattle.lq_journal.specs.State.{end_of, IsAppendFault, IsFull};
 ghost use Rattle.lq_journal.specs.declared.fault.AppendFault.TheVariants.{Full};
 
 use crate::fault::{AppendFault, LoadFault};

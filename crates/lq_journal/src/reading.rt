@@ -1,8 +1,7 @@
 ghost use Rattle.std.specs.Prelude.{◌≡◌, ◌+◌, ◌≤◌, ◌<◌, ◌^◌, ◌∷◌, ◌++◌, length, take, IfOk, IfErr, IsNone, MatchOption, OnOk, Some, None, Ok, true, false};
 ghost use Rattle.std.specs.Option.{ForSome};
 ghost use Rattle.std.specs.Str.{is_utf8};
-ghost use Rattle.lq_frames.specs.Body.{front_number, with_text, texts_from, if_any, is_state, as_body};
-ghost use Rattle.lq_frames.specs.Frames.{entry_len, header};
+ghost use Rattle.lq_frames.specs.Body.{front_number, with_text, texts_from, if_any, is_state, as_body, entry_len, header};
 ghost use Rattle.lq_journal.specs.Reading.{IsNext, IsStepFault, IsFound, IsReadFault, taken_up};
 ghost use Rattle.lq_gate.specs.Gate.{IsEnd};
 

@@ -8,8 +8,7 @@ use Rattle.std.specs.Prelude.{if◌then◌else◌}
 use Rattle.serde_json.specs.Data.{null, number, object}
 use Rattle.serde_json.specs.Find.{as_integer, of_integer}
 use Rattle.serde_json.specs.View.{items_of}
-use Rattle.lq_tree.specs.Json.{entries_of, tree_of, trees_of}
-use Rattle.lq_tree.specs.Tree.{is_tree, rises}
+use Rattle.lq_tree.specs.Json.{entries_of, tree_of, trees_of, is_tree, rises}
 use Rattle.lq_tree.specs.declared.node.Node.{List as ListNode, Map as MapNode, Node, Whole, map-Node, roll-Node, the_lemmas}
 use Rattle.lq_tree.specs.declared.node.Node.TheOpen.{Node-F}
 use Rattle.lq_tree.specs.declared.node.Node.TheFolds.{ind-Node}

@@ -2,14 +2,14 @@
 use Rattle.std.specs.List.{list_all}
 use Rattle.std.specs.Map.{values_of}
 use Rattle.std.specs.Prelude.{Bool, List, [], if◌then◌else◌, int_le, int_lt, max, neg_ℤ, pos, suc, true, ℕ, ℤ, ◌&&◌, ◌++◌, ◌^◌, ◌∷◌, ◌≡◌, ◌≤◌}
+use Rattle.lq_tree.specs.Json.{is_tree}
+use Rattle.lq_tree.specs.declared.node.Node.{Node, fold-Node}
+use Rattle.lq_tree.specs.declared.node.Node.TheOpen.{Node-F}
 use Rattle.serde_json.specs.Data.{Data, Members, array, boolean, no_members, null, number, object, put, string}
 use Rattle.serde_json.specs.Find.{of_integer}
 use Rattle.serde_json.specs.Read.{max_depth}
 use Rattle.serde_json.specs.View.{items_of}
 use Rattle.serde_json.specs.Written.{compact_text}
-use Rattle.lq_tree.specs.Tree.{is_tree}
-use Rattle.lq_tree.specs.declared.node.Node.{Node, fold-Node}
-use Rattle.lq_tree.specs.declared.node.Node.TheOpen.{Node-F}
 
 -- the members of an object, each at its key
 abbrev pub members_from : List (List ℕ × Data) → Members → Members

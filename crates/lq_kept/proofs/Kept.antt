@@ -2,7 +2,7 @@
 use Rattle.std.proofs.Common.{ap, sym, refl, ◌≡◌, ◌∙◌, ◌++◌, true, false, List, [], ◌∷◌, ℕ, suc, length, Option, Some, None}
 use Rattle.std.specs.Prelude.{if◌then◌else◌}
 use Rattle.lq_base.specs.declared.tracking.Tracked.{Tracked}
-use Rattle.lq_turns.specs.Rollback.{has_tag, tagged_place}
+use Rattle.lq_turns.specs.Script.{has_tag, tagged_place}
 
 abbrev one : Option ℕ
 one = Some 1

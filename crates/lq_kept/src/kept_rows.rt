@@ -1,5 +1,5 @@
 ghost use Rattle.std.specs.Prelude.{◌≡◌, ◌≤◌, None, Some, IfOk, OnErr, length, ℕ};
-ghost use Rattle.lq_turns.specs.Rollback.{has_tag, places_until, rows_kept, tagged_place};
+ghost use Rattle.lq_turns.specs.Script.{has_tag, places_until, rows_kept, tagged_place};
 
 use lq_base::{Target, Text, Tracked};
 use thiserror::Error;

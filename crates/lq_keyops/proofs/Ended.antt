@@ -6,20 +6,17 @@ use Rattle.lq_base.specs.declared.name.Name.{Name}
 use Rattle.lq_base.specs.declared.reason.Reason.TheVariants as reason
 use Rattle.lq_chain.specs.History.{History}
 use Rattle.lq_base.specs.Name.{is_named}
-use Rattle.lq_model.specs.Catalogue.{Catalogue, Table, no_table, table_of, the_table, with_table}
+use Rattle.lq_model.specs.Catalogue.{Catalogue, Table, no_table, table_of, the_table, with_table, is_in, constraint_names, key_list}
 use Rattle.lq_decide.specs.Faults.{loses_target}
-use Rattle.lq_model.specs.Names.{is_in}
-use Rattle.lq_model.specs.Needs.{has_numbered}
-use Rattle.lq_model.specs.TableNames.{constraint_names, key_list}
+use Rattle.lq_model.specs.Tables.{has_numbered}
 use Rattle.lq_keyops.specs.Targets.{any_aims_in_vain}
 use Rattle.lq_keyops.proofs.TargetLemmas.{loses_is}
 use Rattle.lq_model.specs.Plan.{Plan, decide}
-use Rattle.lq_model.specs.Reserved.{is_reserved, is_tracking}
+use Rattle.lq_model.specs.NameSpaces.{is_reserved, is_tracking}
 use Rattle.lq_model.specs.declared.caller.By.{By}
 use Rattle.lq_model.specs.declared.caller.By.TheVariants.{Program, User}
 use Rattle.lq_model.proofs.Lists.{any-map}
-use Rattle.lq_rows.specs.Answers.{Answers}
-use Rattle.lq_rows.specs.Stored.{with_shape}
+use Rattle.lq_rows.specs.Stored.{Answers, with_shape}
 use Rattle.lq_rows.specs.declared.fault.RunFault.TheVariants.{Refused}
 use Rattle.lq_rows.specs.declared.shape.Shape.{Shape}
 

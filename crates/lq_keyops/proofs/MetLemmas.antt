@@ -5,14 +5,11 @@ use Rattle.std.specs.List.{list_any}
 use Rattle.lq_base.specs.declared.value.Value.{Value}
 use Rattle.lq_base.specs.declared.name.Name.{Name}
 use Rattle.lq_decide.specs.Faults.{has_null_in}
-use Rattle.lq_model.specs.Catalogue.{Table}
-use Rattle.lq_model.specs.Row.{by_name, has_equals, is_null, picked, same_values}
+use Rattle.lq_model.specs.Catalogue.{Table, by_name, has_equals, is_null, picked, same_values}
 use Rattle.lq_model.specs.declared.constraint.ForeignKey.{ForeignKey}
 use Rattle.lq_model.proofs.Lists.{any-map, any_same, or_false, or_left}
-use Rattle.lq_keyops.specs.Met.{HasNoNull}
-use Rattle.lq_rows.specs.Order.{values_cmp}
-use Rattle.lq_rows.specs.Stored.{ShowsRows}
-use Rattle.lq_keyops.specs.Parents.{lacks_parent_in}
+use Rattle.lq_keyops.specs.Targets.{HasNoNull, lacks_parent_in}
+use Rattle.lq_rows.specs.Stored.{values_cmp, ShowsRows}
 use Rattle.lq_rows.proofs.SeenLemmas.{null_added, same_values_back}
 
 abbrev nothing : BTreeSet (List Value)

@@ -10,14 +10,13 @@ use Rattle.lq_base.specs.declared.name.Name.{Name}
 use Rattle.lq_arm.proofs.NameLemmas.{tables_in}
 use Rattle.lq_chain.specs.History.{History, changed}
 use Rattle.lq_model.specs.Catalogue.{Catalogue, Table, no_table, table_of, the_table, with_table}
-use Rattle.lq_model.specs.DropConstraint.{has_index_in, without_index_in}
+use Rattle.lq_model.specs.Constraints.{has_index_in, without_index_in}
 use Rattle.lq_model.specs.declared.index.Index.{Index}
 use Rattle.lq_model.proofs.Lists.{any-map, filter_kept, or_false, or_left, or_right, same_name, true_false, whether}
 use Rattle.lq_model.proofs.Maps.{below_gone, not_some, some_same, sorted_entries}
-use Rattle.lq_rows.specs.Answers.{Continues}
-use Rattle.lq_rows.specs.Stored.{Stored}
+use Rattle.lq_rows.specs.Stored.{Continues, Stored}
 use Rattle.lq_rows.proofs.Continued.{goes_one_further, stays}
-use Rattle.lq_keyops.specs.AllTables.{Finds, all_without}
+use Rattle.lq_keyops.specs.Targets.{Finds, all_without}
 
 filter_again : {A : Type 0} (p : A → Bool) (xs : List A) → filter p (filter p xs) ≡ filter p xs
 filter_again p [] = refl

@@ -5,9 +5,7 @@ use Rattle.std.specs.Prelude.{map}
 use Rattle.lq_base.specs.Name.{is_named}
 use Rattle.lq_base.specs.declared.name.Name.{Name}
 use Rattle.lq_decide.specs.Faults.{loses_target}
-use Rattle.lq_model.specs.Catalogue.{Catalogue, Table}
-use Rattle.lq_model.specs.Names.{same_names}
-use Rattle.lq_model.specs.TableNames.{key_list, target_lists}
+use Rattle.lq_model.specs.Catalogue.{Catalogue, Table, same_names, key_list, target_lists}
 use Rattle.lq_model.specs.declared.constraint.ForeignKey.{ForeignKey}
 use Rattle.lq_model.specs.declared.constraint.Key.{Key}
 use Rattle.lq_model.specs.declared.constraint.Unique.{Unique}

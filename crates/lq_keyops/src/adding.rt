@@ -1,10 +1,9 @@
 ghost use Rattle.std.specs.Prelude.{◌≡◌, ◌&&◌, IfOk};
 ghost use Rattle.lq_decide.specs.Faults.{are_twins};
-ghost use Rattle.lq_model.specs.AddConstraint as spec;
+ghost use Rattle.lq_model.specs.Constraints as spec;
 ghost use Rattle.lq_model.specs.Plan.{decide};
 ghost use Rattle.lq_model.specs.Sound.{IsSound};
-ghost use Rattle.lq_rows.specs.Answers.{Answers};
-ghost use Rattle.lq_rows.specs.Stored.{with_shape};
+ghost use Rattle.lq_rows.specs.Stored.{Answers, with_shape};
 
 use crate::ending::{nothing_there, reshape};
 use crate::equal::{has_twins, lacks_one};

@@ -8,12 +8,11 @@ ghost use Rattle.lq_chain.specs.History.{changed};
 ghost use Rattle.lq_decide.specs.Faults.{no_faults};
 ghost use Rattle.lq_arm.specs.Verdict.{tests_of, verdict_of};
 ghost use Rattle.lq_model.specs.Catalogue.{table_of, the_table, with_table};
-ghost use Rattle.lq_model.specs.DropConstraint as spec;
+ghost use Rattle.lq_model.specs.Constraints as spec;
 ghost use Rattle.lq_model.specs.Plan.{decide};
 ghost use Rattle.lq_model.specs.Sound.{IsSound};
-ghost use Rattle.lq_rows.specs.Answers.{Answers, Continues};
-ghost use Rattle.lq_rows.specs.Stored.{with_shape};
-ghost use Rattle.lq_keyops.specs.AllTables.{Finds, all_without};
+ghost use Rattle.lq_rows.specs.Stored.{Answers, Continues, with_shape};
+ghost use Rattle.lq_keyops.specs.Targets.{Finds, all_without};
 
 use crate::dropping::drop_index_of;
 use crate::lists::indexes_without_in;

@@ -1,14 +1,12 @@
 ghost use Rattle.std.specs.Prelude.{◌≡◌, cond, is_some, true};
 ghost use Rattle.lq_base.specs.declared.reason.Reason.TheVariants as reason;
-ghost use Rattle.lq_decide.specs.Faults.{Faults};
-ghost use Rattle.lq_decide.specs.Judged.{judged};
+ghost use Rattle.lq_decide.specs.Faults.{Faults, judged};
 ghost use Rattle.lq_arm.specs.Verdict.{tests_of, verdict_of};
 ghost use Rattle.lq_model.specs.Catalogue.{table_of, the_table, with_table};
 ghost use Rattle.lq_model.specs.Plan.{Plan, decide};
-ghost use Rattle.lq_rows.specs.Answers.{Answers};
-ghost use Rattle.lq_rows.specs.Stored.{with_shape};
+ghost use Rattle.lq_rows.specs.Stored.{Answers, with_shape};
 ghost use Rattle.lq_rows.specs.declared.fault.RunFault.TheVariants.{Refused};
-ghost use Rattle.lq_keyops.specs.Ends.{Reshapes};
+ghost use Rattle.lq_keyops.specs.Targets.{Reshapes};
 
 use lq_arm::Tests;
 use lq_base::{Name, Reason};

@@ -3,11 +3,9 @@ ghost use Rattle.std.specs.List.{list_any};
 ghost use Rattle.std.specs.Prelude.{◌≡◌, ◌||◌, IfOk, OnOk, List, map};
 ghost use Rattle.lq_base.specs.declared.value.Value.{Value as Data};
 ghost use Rattle.lq_decide.specs.Faults.{are_twins, has_null_in};
-ghost use Rattle.lq_model.specs.Row.{by_name, has_equals, is_null, picked, same_values};
-ghost use Rattle.lq_model.specs.TableNames.{column_missing};
-ghost use Rattle.lq_rows.specs.Order.{values_cmp};
-ghost use Rattle.lq_rows.specs.Stored.{ShowsRows};
-ghost use Rattle.lq_keyops.specs.Met.{HasNoNull};
+ghost use Rattle.lq_model.specs.Catalogue.{by_name, has_equals, is_null, picked, same_values, column_missing};
+ghost use Rattle.lq_rows.specs.Stored.{values_cmp, ShowsRows};
+ghost use Rattle.lq_keyops.specs.Targets.{HasNoNull};
 
 use lq_arm::lacks_column;
 use lq_base::{Name, NoMemory, Value};

@@ -1,15 +1,13 @@
 ghost use Rattle.std.specs.BTreeSet.{contains};
 ghost use Rattle.std.specs.List.{list_any};
 ghost use Rattle.std.specs.Prelude.{◌≡◌, ◌&&◌, IfOk, map, not};
-ghost use Rattle.lq_model.specs.AddConstraint as spec;
+ghost use Rattle.lq_model.specs.Constraints as spec;
 ghost use Rattle.lq_model.specs.Kinds as kinds;
 ghost use Rattle.lq_model.specs.Plan.{decide};
-ghost use Rattle.lq_model.specs.Row.{is_null, picked};
+ghost use Rattle.lq_model.specs.Catalogue.{is_null, picked};
 ghost use Rattle.lq_model.specs.Sound.{IsSound};
-ghost use Rattle.lq_rows.specs.Answers.{Answers};
-ghost use Rattle.lq_rows.specs.Order.{values_cmp};
-ghost use Rattle.lq_rows.specs.Stored.{ShowsRows, with_shape};
-ghost use Rattle.lq_keyops.specs.Parents.{lacks_parent_in};
+ghost use Rattle.lq_rows.specs.Stored.{Answers, values_cmp, ShowsRows, with_shape};
+ghost use Rattle.lq_keyops.specs.Targets.{lacks_parent_in};
 
 use crate::ending::{nothing_there, reshape};
 use crate::equal::{lacks_one, values_of};

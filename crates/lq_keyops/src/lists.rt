@@ -2,7 +2,7 @@ ghost use Rattle.std.specs.List.{filter};
 ghost use Rattle.std.specs.Option.{option_copied};
 ghost use Rattle.std.specs.Prelude.{◌≡◌, IfOk, not};
 ghost use Rattle.lq_base.specs.Name.{beside, is_named};
-ghost use Rattle.lq_model.specs.DropConstraint as spec;
+ghost use Rattle.lq_model.specs.Constraints as spec;
 
 use lq_base::{Duplicate, Items, Name, NoMemory, is_placed};
 use lq_model::{ForeignKey, Index, Key, Unique};

@@ -2,9 +2,9 @@ ghost use Rattle.std.specs.Prelude.{◌≡◌, ◌∷◌, [], ◌||◌};
 ghost use Rattle.lq_base.specs.Name.{beside};
 ghost use Rattle.lq_base.specs.declared.name.Name.{Name as Bytes};
 ghost use Rattle.lq_model.specs.NameSpaces as spaces;
-ghost use Rattle.lq_model.specs.Names.{is_in};
-ghost use Rattle.lq_model.specs.Reserved as reserved;
-ghost use Rattle.lq_keyops.specs.Quiet.{no_tests};
+ghost use Rattle.lq_model.specs.Catalogue.{is_in};
+ghost use Rattle.lq_model.specs.NameSpaces as reserved;
+ghost use Rattle.lq_keyops.specs.Targets.{no_tests};
 
 use lq_arm::{Tests, any_is_foreign, any_is_inner, is_constraint, is_unique_or_index};
 use lq_base::{Dialect, Name};

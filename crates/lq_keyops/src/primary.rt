@@ -1,11 +1,10 @@
 ghost use Rattle.std.specs.Prelude.{◌≡◌, IfOk, Some, map};
-ghost use Rattle.lq_model.specs.AddConstraint as spec;
-ghost use Rattle.lq_model.specs.CreateTable.{key_column};
-ghost use Rattle.lq_model.specs.Names as spaces;
+ghost use Rattle.lq_model.specs.Constraints as spec;
+ghost use Rattle.lq_model.specs.Tables.{key_column};
+ghost use Rattle.lq_model.specs.Catalogue as spaces;
 ghost use Rattle.lq_model.specs.Plan.{decide};
 ghost use Rattle.lq_model.specs.Sound.{IsSound};
-ghost use Rattle.lq_rows.specs.Answers.{Answers};
-ghost use Rattle.lq_rows.specs.Stored.{with_shape};
+ghost use Rattle.lq_rows.specs.Stored.{Answers, with_shape};
 
 use crate::ending::{nothing_there, reshape};
 use crate::equal::{has_null_in, has_twins, lacks_one};

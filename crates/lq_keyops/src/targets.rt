@@ -2,8 +2,8 @@ ghost use Rattle.std.specs.List.{list_any};
 ghost use Rattle.std.specs.Option.{option_copied};
 ghost use Rattle.std.specs.Prelude.{◌≡◌, ◌&&◌, ◌||◌, cond, not};
 ghost use Rattle.lq_base.specs.Name.{is_named};
-ghost use Rattle.lq_model.specs.Names as spaces;
-ghost use Rattle.lq_model.specs.TableNames.{key_list};
+ghost use Rattle.lq_model.specs.Catalogue as spaces;
+ghost use Rattle.lq_model.specs.Catalogue.{key_list};
 ghost use Rattle.lq_keyops.specs.Targets.{aims_in_vain, any_aims_in_vain};
 
 use lq_base::Name;

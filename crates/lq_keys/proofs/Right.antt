@@ -10,7 +10,7 @@ use Rattle.lq_keys.specs.AddForeignKey as add_foreign_key
 use Rattle.lq_keys.specs.CreateIndex as create_index
 use Rattle.lq_keys.specs.DropForeignKey as drop_foreign_key
 use Rattle.lq_keys.specs.DropIndex as drop_index
-use Rattle.lq_keys.specs.IndexColumn as column
+use Rattle.lq_keys.specs.OnDelete as column
 
 pub drop_index_right : (d : Dialect) → Takes (IsSo (drop_index.is_for d)) (drop_index.drop_index d)
 unfolding drop_index.drop_index

@@ -1,9 +1,11 @@
 -- That foreign keys and indexes can be dropped, and that dropping one takes its adding back.
 use Rattle.std.specs.Prelude.{None, Ok, Some, [], refl, true, ◌∷◌, ◌≡◌}
+use Rattle.lq_base.proofs.NameLemmas.{beside_named}
 use Rattle.lq_base.specs.Name.{beside, is_name, is_name_key, is_object}
 use Rattle.lq_base.specs.declared.dialect.Dialect.{Dialect}
 use Rattle.lq_base.specs.declared.dialect.Dialect.TheVariants.{Mysql, Postgresql}
 use Rattle.lq_base.specs.declared.name.Name.{Name}
+use Rattle.lq_keys.specs.OnDelete.{drops_foreign, drops_index, foreign_dropped, index_dropped}
 use Rattle.lq_model.proofs.Effects.{one_back, one_becomes}
 use Rattle.lq_model.proofs.Lists.{and_true}
 use Rattle.lq_model.proofs.UndoConstraints.{drop_after_foreign_key}
@@ -11,14 +13,11 @@ use Rattle.lq_model.proofs.UndoIndexes.{drop_after_index}
 use Rattle.lq_model.proofs.UndoMysql.{drop_foreign_key_after, drop_index_after}
 use Rattle.lq_model.specs.Catalogue.{Catalogue, the_table, with_table}
 use Rattle.lq_model.specs.Sound.{IsSound}
-use Rattle.lq_model.specs.Statement.{is_statement}
-use Rattle.lq_model.specs.Step.{run}
+use Rattle.lq_model.specs.Step.{is_statement, run}
 use Rattle.lq_model.specs.declared.caller.By.TheVariants.{User}
 use Rattle.lq_model.specs.declared.constraint.ForeignKey.{ForeignKey}
 use Rattle.lq_model.specs.declared.index.Index.{Index}
 use Rattle.lq_model.specs.declared.statement.Statement.TheVariants.{AddForeignKey, CreateIndex, DropConstraint, DropForeignKey, DropIndex}
-use Rattle.lq_keys.specs.Drops.{drops_foreign, drops_index, foreign_dropped, index_dropped}
-use Rattle.lq_base.proofs.NameLemmas.{beside_named}
 
 -- foreign keys
 

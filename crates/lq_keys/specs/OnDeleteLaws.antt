@@ -1,11 +1,11 @@
 -- That its words tell what is stated of a deletion.
 use Rattle.std.proofs.Common.{ap, sym, ◌∙◌}
 use Rattle.std.specs.Prelude.{None, Option, Some, option_map, refl, ◌≡◌}
-use Rattle.lq_model.proofs.Told.{text_told}
-use Rattle.lq_model.specs.Canon.{text}
 use Rattle.lq_keys.specs.OnDelete.{on_delete_of, words}
 use Rattle.lq_keys.specs.declared.on_delete.OnDelete.{OnDelete}
 use Rattle.lq_keys.specs.declared.on_delete.OnDelete.TheVariants.{Cascade, NoAction, Restrict}
+use Rattle.lq_model.proofs.Told.{text_told}
+use Rattle.lq_model.specs.Changes.{text}
 
 read : (o : OnDelete) → on_delete_of (words o) ≡ Some o
 read NoAction = refl

@@ -1,8 +1,7 @@
 ghost use Rattle.std.specs.Prelude.{◌≡◌, ◌++◌, IfOk, true};
-ghost use Rattle.lq_base.specs.Options.{if_there};
-ghost use Rattle.lq_tree.specs.Found.{Reads};
+ghost use Rattle.lq_base.specs.Number.{if_there};
+ghost use Rattle.lq_tree.specs.Look.{Reads, value_at};
 ghost use Rattle.lq_tree.specs.Keys.{known};
-ghost use Rattle.lq_tree.specs.Look.{value_at};
 ghost use Rattle.lq_keys.specs.AddForeignKey.{add_foreign_key, foreign_of, ignored, is_false, is_for, is_idle, is_true, key_names, or_remarks};
 
 use crate::drops::foreign_drop;
@@ -164,8 +163,7 @@ impl AddForeignKeyConstraint {
 }
 
 impl Change for AddForeignKeyConstraint {
-    ghost use Rattle.lq_keys.specs.AddForeignKey.{canonical_of, effect, gives, inverse, is_for, is_fresh};
-    ghost use Rattle.lq_keys.specs.AddForeignKeyLaws.{does, restores, returned, spelled, told};
+    ghost use Rattle.lq_keys.specs.AddForeignKey.{canonical_of, effect, gives, inverse, is_for, is_fresh, does, restores, returned, spelled, told};
     ghost use Rattle.lq_keys.specs.declared.add_foreign_key.AddForeignKeyConstraint.{AddForeignKeyConstraint};
 
     ghost Key = { AddForeignKeyConstraint };

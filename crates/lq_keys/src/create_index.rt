@@ -1,5 +1,5 @@
 ghost use Rattle.std.specs.Prelude.{◌≡◌, IfOk, true};
-ghost use Rattle.lq_tree.specs.Found.{Reads};
+ghost use Rattle.lq_tree.specs.Look.{Reads};
 ghost use Rattle.lq_keys.specs.CreateIndex.{create_index, index_of, is_for, name_of};
 
 use crate::drops::index_drop;
@@ -97,8 +97,7 @@ impl CreateIndex {
 }
 
 impl Change for CreateIndex {
-    ghost use Rattle.lq_keys.specs.CreateIndex.{canonical_of, effect, gives, inverse, is_for, is_fresh};
-    ghost use Rattle.lq_keys.specs.CreateIndexLaws.{does, restores, returned, spelled, told};
+    ghost use Rattle.lq_keys.specs.CreateIndex.{canonical_of, effect, gives, inverse, is_for, is_fresh, does, restores, returned, spelled, told};
     ghost use Rattle.lq_keys.specs.declared.create_index.CreateIndex.{CreateIndex};
 
     ghost Key = { CreateIndex };

@@ -1,5 +1,5 @@
 ghost use Rattle.std.specs.Prelude.{◌≡◌, IfOk, true};
-ghost use Rattle.lq_tree.specs.Found.{Reads};
+ghost use Rattle.lq_tree.specs.Look.{Reads};
 ghost use Rattle.lq_keys.specs.DropForeignKey.{is_for, drop_foreign_key};
 
 use crate::drops::foreign_drop;
@@ -49,8 +49,7 @@ impl DropForeignKeyConstraint {
 }
 
 impl Change for DropForeignKeyConstraint {
-    ghost use Rattle.lq_keys.specs.DropForeignKey.{canonical_of, effect, gives, inverse, is_for, is_fresh};
-    ghost use Rattle.lq_keys.specs.DropForeignKeyLaws.{does, restores, returned, spelled, told};
+    ghost use Rattle.lq_keys.specs.DropForeignKey.{canonical_of, effect, gives, inverse, is_for, is_fresh, does, restores, returned, spelled, told};
     ghost use Rattle.lq_keys.specs.declared.drop_foreign_key.DropForeignKeyConstraint.{DropForeignKeyConstraint};
 
     ghost Key = { DropForeignKeyConstraint };

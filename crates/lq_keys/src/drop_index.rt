@@ -1,5 +1,5 @@
 ghost use Rattle.std.specs.Prelude.{◌≡◌, IfOk, true};
-ghost use Rattle.lq_tree.specs.Found.{Reads};
+ghost use Rattle.lq_tree.specs.Look.{Reads};
 ghost use Rattle.lq_keys.specs.DropIndex.{drop_index, is_for};
 
 use crate::drops::index_drop;
@@ -50,8 +50,7 @@ impl DropIndex {
 }
 
 impl Change for DropIndex {
-    ghost use Rattle.lq_keys.specs.DropIndex.{canonical_of, effect, gives, inverse, is_for, is_fresh};
-    ghost use Rattle.lq_keys.specs.DropIndexLaws.{does, restores, returned, spelled, told};
+    ghost use Rattle.lq_keys.specs.DropIndex.{canonical_of, effect, gives, inverse, is_for, is_fresh, does, restores, returned, spelled, told};
     ghost use Rattle.lq_keys.specs.declared.drop_index.DropIndex.{DropIndex};
 
     ghost Key = { DropIndex };

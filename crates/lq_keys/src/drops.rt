@@ -1,6 +1,6 @@
 //! What drops a foreign key or an index.
 ghost use Rattle.std.specs.Prelude.{◌≡◌, IfOk};
-ghost use Rattle.lq_keys.specs.Drops.{drops_foreign, drops_index};
+ghost use Rattle.lq_keys.specs.OnDelete.{drops_foreign, drops_index};
 
 use lq_base::{Dialect, Duplicate, Name, NoMemory, both, placed};
 use lq_model::Statement;

@@ -14,7 +14,7 @@ pub struct IndexColumn {
 const KEYS: [&str; 2] = ["name", "remarks"];
 
 impl Given for IndexColumn {
-    ghost use Rattle.lq_keys.specs.IndexColumn.{index_column, is_column};
+    ghost use Rattle.lq_keys.specs.OnDelete.{index_column, is_column};
 
     ghost of = { index_column };
 
@@ -29,7 +29,7 @@ impl Given for IndexColumn {
 }
 
 impl Written for IndexColumn {
-    ghost use Rattle.lq_keys.specs.IndexColumn.{rows};
+    ghost use Rattle.lq_keys.specs.OnDelete.{rows};
 
     ghost rows = { rows };
 

@@ -1,6 +1,6 @@
 ghost use Rattle.std.specs.Prelude.{◌≡◌, option_map};
-ghost use Rattle.lq_model.specs.Canon.{text};
-ghost use Rattle.lq_model.specs.Written.{field_value};
+ghost use Rattle.lq_model.specs.Changes.{text};
+ghost use Rattle.lq_model.specs.TakesBack.{field_value};
 ghost use Rattle.lq_keys.specs.OnDelete.{cascades, on_delete_of, words};
 
 use lq_base::KindFault;

@@ -5,8 +5,7 @@ use Rattle.std.specs.Prelude.{Err, List, Ok, Result, [], codes, ℕ, ◌++◌, �
 use Rattle.lq_base.specs.declared.dialect.Dialect.{Dialect}
 use Rattle.lq_tree.specs.Items.{item_path}
 use Rattle.lq_tree.specs.declared.node.Node.{Node}
-use Rattle.lq_kinds.specs.Loads.{Files, change_at, changes_from, left_by}
-use Rattle.lq_kinds.specs.SetReads.{by_set, map_set}
+use Rattle.lq_kinds.specs.Changes.{Files, change_at, changes_from, left_by, by_set, map_set}
 use Rattle.lq_kinds.specs.declared.any_change.AnyChange.{AnyChange}
 use Rattle.lq_kinds.specs.declared.fault.SetFault.{SetFault}
 

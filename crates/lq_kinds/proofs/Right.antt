@@ -4,17 +4,16 @@ use Rattle.std.proofs.lemmas.Bool.{and_from, and_parts}
 use Rattle.std.specs.List.{list_all}
 use Rattle.std.specs.Prelude.{Bool, Err, IfOk, IfSome, List, None, Ok, Option, Result, Some, [], codes, cond, if◌then◌else◌, refl, true, false, ℕ, ◌+◌, ◌∷◌, ◌≡◌}
 use Rattle.std.specs.Str.{bytes_eq}
-use Rattle.lq_base.specs.Options.{if_there}
+use Rattle.lq_base.specs.Number.{if_there}
 use Rattle.lq_base.specs.declared.dialect.Dialect.{Dialect}
 use Rattle.lq_base.specs.declared.fault.KindFault.TheVariants.{Unknown}
 use Rattle.lq_model.specs.SqlText.{QueriesAreSpelled, StatementsAreSpelled, TestsAreSpelled}
 use Rattle.lq_tree.proofs.Says.{IsSo, Says, all_found, anything, given, given_at, map_so, start, then_so, within_so}
 use Rattle.lq_tree.proofs.Small.{are_small, have_small, is_small, items_small, map_is, map_small, text_small, value_small}
-use Rattle.lq_tree.specs.Found.{Found, and_then, map_found, within}
+use Rattle.lq_tree.specs.Look.{Found, and_then, map_found, within, is_null, list_of, map_of, printed_of, value_at}
 use Rattle.lq_tree.specs.Items.{item_path, items_from}
 use Rattle.lq_tree.specs.Keys.{Keys, fields, optional, required, ◌⊛◌}
 use Rattle.lq_tree.specs.Given.{a_text}
-use Rattle.lq_tree.specs.Look.{is_null, list_of, map_of, printed_of, value_at}
 use Rattle.lq_tree.specs.declared.node.Node.{Map as MapNode, Node, Text as TextNode}
 use Rattle.lq_columns.proofs.Right as columns
 use Rattle.lq_data.proofs.Right as row_changes
@@ -59,13 +58,9 @@ use Rattle.lq_views.specs.RenameView as rename_view
 use Rattle.lq_load.specs.LoadData.{load_data}
 use Rattle.lq_load.specs.LoadKeys.{load_keys}
 use Rattle.lq_load.specs.declared.load_keys.LoadKeys.{LoadKeys}
-use Rattle.lq_kinds.specs.AnyChange.{any_change, at_only, is_for, named, named_key, named_other}
-use Rattle.lq_kinds.specs.ChangeSets.{by_path, defaulted, heading, heading_keys, if_taken, no_reaction, notes, notes_keys, only_known, path_at, reaction_keys, running, selection, set_of, set_with, sums_keys, a_quoting}
-use Rattle.lq_kinds.specs.Changes.{as_bad, block, block_in, changes_at, changes_in, changes_of, if_tagged, is_read, once_tagged, rollback_at, rollback_keys, second_tag, sql_change, sql_node, undoing, undoing_by, undoing_list, undoing_scalar, undoing_text}
-use Rattle.lq_kinds.specs.Dialects.{is_block_for, is_read_for}
-use Rattle.lq_kinds.specs.Label.{a_label}
-use Rattle.lq_kinds.specs.Loads.{Files, a_load, change_at, change_of, changes_from, left_by, load_in, load_of}
-use Rattle.lq_kinds.specs.SetReads.{by_keys, by_set, map_set}
+use Rattle.lq_kinds.specs.AnyChange.{any_change, at_only, is_for, named, named_key, named_other, is_block_for, is_read_for}
+use Rattle.lq_kinds.specs.ChangeSets.{by_path, defaulted, heading, heading_keys, if_taken, no_reaction, notes, notes_keys, only_known, path_at, reaction_keys, running, selection, set_of, set_with, sums_keys, a_quoting, a_label}
+use Rattle.lq_kinds.specs.Changes.{as_bad, block, block_in, changes_at, changes_in, changes_of, if_tagged, is_read, once_tagged, rollback_at, rollback_keys, second_tag, sql_change, sql_node, undoing, undoing_by, undoing_list, undoing_scalar, undoing_text, Files, a_load, change_at, change_of, changes_from, left_by, load_in, load_of, by_keys, by_set, map_set}
 use Rattle.lq_kinds.specs.declared.any_change.AnyChange.{AnyChange}
 use Rattle.lq_kinds.specs.declared.any_change.AnyChange.TheVariants.{AddColumn, AddDefaultValue, AddForeignKeyConstraint, AddNotNullConstraint, AddPrimaryKey, AddUniqueConstraint, CreateIndex, CreateSequence, CreateTable, CreateView, Delete, DropColumn, DropDefaultValue, DropForeignKeyConstraint, DropIndex, DropNotNullConstraint, DropPrimaryKey, DropSequence, DropTable, DropUniqueConstraint, DropView, Empty, Insert, LoadData, RenameColumn, RenameSequence, RenameTable, RenameView, Sql, TagDatabase, Update}
 use Rattle.lq_kinds.specs.declared.change_set.ChangeSet.{ChangeSet}

@@ -1,21 +1,13 @@
 -- A change of any type: what it says is what its type says.
-use Rattle.std.specs.Prelude.{Bool, Err, List, Option, Result, Some, [], codes, if◌then◌else◌, ℕ, ◌∷◌}
+use Rattle.std.specs.List.{list_all}
+use Rattle.std.specs.Prelude.{Bool, Err, List, None, Option, Result, Some, [], codes, if◌then◌else◌, true, ℕ, ◌&&◌, ◌∷◌, ◌≡◌}
 use Rattle.std.specs.Str.{bytes_eq}
 use Rattle.lq_base.specs.declared.dialect.Dialect.{Dialect}
 use Rattle.lq_base.specs.declared.fault.KindFault.TheVariants.{Bad, Unknown}
 use Rattle.lq_base.specs.declared.reason.Reason.{Reason}
-use Rattle.lq_model.specs.Canon.{CanonicalChange}
-use Rattle.lq_model.specs.Catalogue.{Catalogue}
-use Rattle.lq_model.specs.declared.statement.Statement.{Statement}
-use Rattle.lq_tree.specs.Found.{Found, Taken, map_found, within}
-use Rattle.lq_tree.specs.Look.{map_of}
-use Rattle.lq_tree.specs.declared.node.Node.{Node}
 use Rattle.lq_columns.specs.AddDefaultValue as add_default_value
-use Rattle.lq_nullable.specs.AddNotNull as add_not_null
 use Rattle.lq_columns.specs.DropColumn as drop_column
 use Rattle.lq_columns.specs.DropDefaultValue as drop_default_value
-use Rattle.lq_nullable.specs.DropNotNull as drop_not_null
-use Rattle.lq_rename_column.specs.RenameColumn as rename_column
 use Rattle.lq_data.specs.Delete as delete
 use Rattle.lq_data.specs.Empty as empty
 use Rattle.lq_data.specs.Insert as insert
@@ -23,26 +15,36 @@ use Rattle.lq_data.specs.Sql as sql_text
 use Rattle.lq_data.specs.TagDatabase as tag_database
 use Rattle.lq_data.specs.Update as update
 use Rattle.lq_keys.specs.AddForeignKey as add_foreign_key
-use Rattle.lq_load.specs.LoadData as load_data
-use Rattle.lq_primary_keys.specs.AddPrimaryKey as add_primary_key
-use Rattle.lq_uniques.specs.AddUnique as add_unique
 use Rattle.lq_keys.specs.CreateIndex as create_index
 use Rattle.lq_keys.specs.DropForeignKey as drop_foreign_key
 use Rattle.lq_keys.specs.DropIndex as drop_index
+use Rattle.lq_kinds.specs.declared.any_change.AnyChange.{AnyChange}
+use Rattle.lq_kinds.specs.declared.any_change.AnyChange.TheVariants.{AddColumn, AddDefaultValue, AddForeignKeyConstraint, AddNotNullConstraint, AddPrimaryKey, AddUniqueConstraint, CreateIndex, CreateSequence, CreateTable, CreateView, Delete, DropColumn, DropDefaultValue, DropForeignKeyConstraint, DropIndex, DropNotNullConstraint, DropPrimaryKey, DropSequence, DropTable, DropUniqueConstraint, DropView, Empty, Insert, LoadData, RenameColumn, RenameSequence, RenameTable, RenameView, Sql, TagDatabase, Update}
+use Rattle.lq_kinds.specs.declared.change_set.ChangeSet.{ChangeSet}
+use Rattle.lq_kinds.specs.declared.change_set.Changelog.{Changelog}
+use Rattle.lq_load.specs.LoadData as load_data
+use Rattle.lq_model.specs.Catalogue.{Catalogue}
+use Rattle.lq_model.specs.Changes.{CanonicalChange}
+use Rattle.lq_model.specs.declared.statement.Statement.{Statement}
+use Rattle.lq_nullable.specs.AddNotNull as add_not_null
+use Rattle.lq_nullable.specs.DropNotNull as drop_not_null
+use Rattle.lq_primary_keys.specs.AddPrimaryKey as add_primary_key
 use Rattle.lq_primary_keys.specs.DropPrimaryKey as drop_primary_key
-use Rattle.lq_uniques.specs.DropUnique as drop_unique
+use Rattle.lq_rename_column.specs.RenameColumn as rename_column
 use Rattle.lq_tables.specs.AddColumn as add_column
 use Rattle.lq_tables.specs.CreateTable as create_table
 use Rattle.lq_tables.specs.DropTable as drop_table
 use Rattle.lq_tables.specs.RenameTable as rename_table
+use Rattle.lq_tree.specs.Look.{Found, Taken, map_found, map_of, within}
+use Rattle.lq_tree.specs.declared.node.Node.{Node}
+use Rattle.lq_uniques.specs.AddUnique as add_unique
+use Rattle.lq_uniques.specs.DropUnique as drop_unique
 use Rattle.lq_views.specs.CreateSequence as create_sequence
 use Rattle.lq_views.specs.CreateView as create_view
 use Rattle.lq_views.specs.DropSequence as drop_sequence
 use Rattle.lq_views.specs.DropView as drop_view
 use Rattle.lq_views.specs.RenameSequence as rename_sequence
 use Rattle.lq_views.specs.RenameView as rename_view
-use Rattle.lq_kinds.specs.declared.any_change.AnyChange.{AnyChange}
-use Rattle.lq_kinds.specs.declared.any_change.AnyChange.TheVariants.{AddColumn, AddDefaultValue, AddForeignKeyConstraint, AddNotNullConstraint, AddPrimaryKey, AddUniqueConstraint, CreateIndex, CreateSequence, CreateTable, CreateView, Delete, DropColumn, DropDefaultValue, DropForeignKeyConstraint, DropIndex, DropNotNullConstraint, DropPrimaryKey, DropSequence, DropTable, DropUniqueConstraint, DropView, Empty, Insert, LoadData, RenameColumn, RenameSequence, RenameTable, RenameView, Sql, TagDatabase, Update}
 
 -- reading
 
@@ -298,3 +300,18 @@ canonical_of (LoadData x) = load_data.canonical_of x
 canonical_of (Sql x) = sql_text.canonical_of x
 canonical_of (TagDatabase x) = tag_database.canonical_of x
 canonical_of (Empty x) = empty.canonical_of x
+
+-- For which dialect changesets were read.
+
+-- the changes of the rollback block, where there is one, were read for the dialect
+abbrev pub is_block_for : Dialect → Option (List AnyChange) → Bool
+is_block_for d None = true
+is_block_for d (Some block) = list_all (is_for d) block
+
+-- its changes were read for the dialect, and those of its rollback block
+abbrev pub is_read_for : Dialect → ChangeSet → Bool
+is_read_for d x = list_all (is_for d) x.changes && is_block_for d x.rollback
+
+-- so was each changeset: one that is not here has neither changes nor a rollback block
+abbrev pub AreFor : Dialect → Changelog → Type 0
+AreFor d g = list_all (is_read_for d) g.sets ≡ true

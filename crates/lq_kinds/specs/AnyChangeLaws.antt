@@ -2,43 +2,43 @@
 use Rattle.std.proofs.Common.{ap, sym, ◌∙◌}
 use Rattle.std.specs.Prelude.{List, false, refl, ℕ, ◌≡◌}
 use Rattle.lq_base.specs.Name.{is_named}
-use Rattle.lq_model.proofs.CanonLemmas.{change_told}
-use Rattle.lq_model.proofs.Lists.{named_itself, true_false}
-use Rattle.lq_model.specs.Changes.{AreReturns, AreStatements, AreTold, HaveEffect, TakeBack}
-use Rattle.lq_columns.specs.AddDefaultValueLaws as add_default_value
-use Rattle.lq_nullable.specs.AddNotNullLaws as add_not_null
-use Rattle.lq_columns.specs.DropColumnLaws as drop_column
-use Rattle.lq_columns.specs.DropDefaultValueLaws as drop_default_value
-use Rattle.lq_nullable.specs.DropNotNullLaws as drop_not_null
-use Rattle.lq_rename_column.specs.RenameColumnLaws as rename_column
-use Rattle.lq_data.specs.DeleteLaws as delete
-use Rattle.lq_data.specs.EmptyLaws as empty
-use Rattle.lq_data.specs.InsertLaws as insert
+use Rattle.lq_columns.specs.AddDefaultValue as add_default_value
+use Rattle.lq_columns.specs.DropColumn as drop_column
+use Rattle.lq_columns.specs.DropDefaultValue as drop_default_value
+use Rattle.lq_data.specs.Delete as delete
+use Rattle.lq_data.specs.Empty as empty
+use Rattle.lq_data.specs.Insert as insert
 use Rattle.lq_data.specs.SqlLaws as sql_text
-use Rattle.lq_data.specs.TagDatabaseLaws as tag_database
-use Rattle.lq_data.specs.UpdateLaws as update
-use Rattle.lq_keys.specs.AddForeignKeyLaws as add_foreign_key
-use Rattle.lq_load.specs.LoadDataLaws as load_data
-use Rattle.lq_primary_keys.specs.AddPrimaryKeyLaws as add_primary_key
-use Rattle.lq_uniques.specs.AddUniqueLaws as add_unique
-use Rattle.lq_keys.specs.CreateIndexLaws as create_index
-use Rattle.lq_keys.specs.DropForeignKeyLaws as drop_foreign_key
-use Rattle.lq_keys.specs.DropIndexLaws as drop_index
-use Rattle.lq_primary_keys.specs.DropPrimaryKeyLaws as drop_primary_key
-use Rattle.lq_uniques.specs.DropUniqueLaws as drop_unique
-use Rattle.lq_tables.specs.AddColumnLaws as add_column
-use Rattle.lq_tables.specs.CreateTableLaws as create_table
-use Rattle.lq_tables.specs.DropTableLaws as drop_table
-use Rattle.lq_tables.specs.RenameTableLaws as rename_table
-use Rattle.lq_views.specs.CreateSequenceLaws as create_sequence
-use Rattle.lq_views.specs.CreateViewLaws as create_view
-use Rattle.lq_views.specs.DropSequenceLaws as drop_sequence
-use Rattle.lq_views.specs.DropViewLaws as drop_view
-use Rattle.lq_views.specs.RenameSequenceLaws as rename_sequence
-use Rattle.lq_views.specs.RenameViewLaws as rename_view
+use Rattle.lq_data.specs.TagDatabase as tag_database
+use Rattle.lq_data.specs.Update as update
+use Rattle.lq_keys.specs.AddForeignKey as add_foreign_key
+use Rattle.lq_keys.specs.CreateIndex as create_index
+use Rattle.lq_keys.specs.DropForeignKey as drop_foreign_key
+use Rattle.lq_keys.specs.DropIndex as drop_index
 use Rattle.lq_kinds.specs.AnyChange.{canonical_of, effect, gives, inverse, is_for, is_fresh}
 use Rattle.lq_kinds.specs.declared.any_change.AnyChange.{AnyChange}
 use Rattle.lq_kinds.specs.declared.any_change.AnyChange.TheVariants.{AddColumn, AddDefaultValue, AddForeignKeyConstraint, AddNotNullConstraint, AddPrimaryKey, AddUniqueConstraint, CreateIndex, CreateSequence, CreateTable, CreateView, Delete, DropColumn, DropDefaultValue, DropForeignKeyConstraint, DropIndex, DropNotNullConstraint, DropPrimaryKey, DropSequence, DropTable, DropUniqueConstraint, DropView, Empty, Insert, LoadData, RenameColumn, RenameSequence, RenameTable, RenameView, Sql, TagDatabase, Update}
+use Rattle.lq_load.specs.LoadData as load_data
+use Rattle.lq_model.proofs.CanonLemmas.{change_told}
+use Rattle.lq_model.proofs.Lists.{named_itself, true_false}
+use Rattle.lq_model.specs.Changes.{AreReturns, AreStatements, AreTold, HaveEffect, TakeBack}
+use Rattle.lq_nullable.specs.AddNotNull as add_not_null
+use Rattle.lq_nullable.specs.DropNotNull as drop_not_null
+use Rattle.lq_primary_keys.specs.AddPrimaryKey as add_primary_key
+use Rattle.lq_primary_keys.specs.DropPrimaryKey as drop_primary_key
+use Rattle.lq_rename_column.specs.RenameColumn as rename_column
+use Rattle.lq_tables.specs.AddColumnLaws as add_column
+use Rattle.lq_tables.specs.CreateTableLaws as create_table
+use Rattle.lq_tables.specs.DropTable as drop_table
+use Rattle.lq_tables.specs.RenameTable as rename_table
+use Rattle.lq_uniques.specs.AddUnique as add_unique
+use Rattle.lq_uniques.specs.DropUnique as drop_unique
+use Rattle.lq_views.specs.CreateSequence as create_sequence
+use Rattle.lq_views.specs.CreateView as create_view
+use Rattle.lq_views.specs.DropSequence as drop_sequence
+use Rattle.lq_views.specs.DropView as drop_view
+use Rattle.lq_views.specs.RenameSequence as rename_sequence
+use Rattle.lq_views.specs.RenameView as rename_view
 
 pub spelled : AreStatements is_for gives
 spelled d (CreateTable x) = create_table.spelled d x

@@ -1,7 +1,9 @@
--- What a changeset of a tree is read as.
+-- Contexts and labels of changesets.
+use Rattle.std.specs.List.{list_all}
 use Rattle.std.specs.Option.{unwrap_or}
-use Rattle.std.specs.Prelude.{Bool, Err, List, None, Ok, Option, Result, Some, [], codes, cond, false, map, option_and_then, true, ℕ, ◌++◌, ◌∷◌, ◌≡◌}
+use Rattle.std.specs.Prelude.{Bool, Err, List, None, Ok, Option, Result, Some, [], codes, cond, false, is_some, map, nat_le, not, option_and_then, true, ℕ, ◌&&◌, ◌++◌, ◌∷◌, ◌≡◌}
 use Rattle.std.specs.Str.{bytes_eq}
+use Rattle.lq_base.specs.Number.{char_count, has_control}
 use Rattle.lq_base.specs.declared.dialect.Dialect.{Dialect}
 use Rattle.lq_base.specs.declared.fault.KindFault.TheVariants.{Bad}
 use Rattle.lq_base.specs.declared.run.OnFail.TheVariants.{Halt}
@@ -9,18 +11,12 @@ use Rattle.lq_canon.specs.Sums as sums
 use Rattle.lq_cond.specs.Reading.{reaction}
 use Rattle.lq_cond.specs.declared.cond.Cond.TheVariants.{And}
 use Rattle.lq_cond.specs.declared.cond.Reaction.{Reaction}
-use Rattle.lq_tree.specs.Found.{Found, Taken, and_then, map_found, or_bad, within, within_list}
-use Rattle.lq_tree.specs.Given.{a_text, a_truth, if_so}
-use Rattle.lq_tree.specs.Items.{items_from, items_in}
-use Rattle.lq_tree.specs.Keys.{Keys, fields, known, optional, required, ◌⊛◌}
-use Rattle.lq_tree.specs.Look.{list_of, printed_of, value_at}
-use Rattle.lq_tree.specs.declared.node.Node.{Node}
+use Rattle.lq_expr.specs.Grammar.{parsed, parsed_names}
+use Rattle.lq_expr.specs.Words.{is_blank}
+use Rattle.lq_expr.specs.declared.expr.Expr.{Expr}
+use Rattle.lq_expr.specs.declared.expr.ExprFault.{ExprFault}
 use Rattle.lq_kinds.specs.AnyChange.{canonical_of}
-use Rattle.lq_kinds.specs.Changes.{changes_at, here_keys, rollback_keys}
-use Rattle.lq_kinds.specs.Context.{context_keys, labels}
-use Rattle.lq_kinds.specs.Label.{a_label, is_label}
-use Rattle.lq_kinds.specs.Loads.{Files}
-pub use Rattle.lq_kinds.specs.SetReads.{ReadsSet, by_keys, by_set, map_set}
+use Rattle.lq_kinds.specs.Changes.{Files, changes_at, here_keys, rollback_keys}
 use Rattle.lq_kinds.specs.declared.any_change.AnyChange.{AnyChange}
 use Rattle.lq_kinds.specs.declared.change_set.ChangeSet.{ChangeSet}
 use Rattle.lq_kinds.specs.declared.context.Context.{Context}
@@ -31,6 +27,58 @@ use Rattle.lq_kinds.specs.declared.heading.Heading.{Heading}
 use Rattle.lq_kinds.specs.declared.heading.Notes.{Notes}
 use Rattle.lq_kinds.specs.declared.heading.Running.{Running}
 use Rattle.lq_kinds.specs.declared.heading.Selection.{Selection}
+use Rattle.lq_tree.specs.Given.{a_text, a_truth, if_so}
+use Rattle.lq_tree.specs.Items.{items_from, items_in}
+use Rattle.lq_tree.specs.Keys.{Keys, at_optional, fields, known, optional, required, ◌⊛◌}
+use Rattle.lq_tree.specs.Look.{Found, Taken, and_then, list_of, map_found, or_bad, printed_of, value_at, within, within_list}
+use Rattle.lq_tree.specs.declared.node.Node.{Node}
+pub use Rattle.lq_kinds.specs.Changes.{ReadsSet, by_keys, by_set, map_set}
+
+-- blanks alone
+abbrev pub is_blank_text : List ℕ → Bool
+is_blank_text text = list_all is_blank text
+
+-- what is no expression is bad
+abbrev pub if_parsed : {A B : Type 0} → (A → B) → Result A ExprFault → Found B
+if_parsed f (Ok a) = Ok (f a)
+if_parsed f (Err fault) = Err (Bad [])
+
+-- the expression of a text; blanks alone have none
+abbrev pub in_context : List ℕ → Found Context
+in_context text = cond (is_blank_text text) (Ok (record { text = text; expression = None })) (if_parsed (λ e. record { text = text; expression = Some e }) (parsed text))
+
+abbrev pub a_context : Taken Context
+a_context n = and_then (a_text n) in_context
+
+-- names with commas between; blanks alone are none
+abbrev pub in_labels : List ℕ → Found LabelNames
+in_labels text = if_parsed (λ names. record { text = text; names = names }) (parsed_names text)
+
+abbrev pub labels : Taken LabelNames
+labels n = and_then (a_text n) in_labels
+
+-- where the first name is there, the second is bad
+abbrev pub either : Node → Option Context → Found (Option Context)
+either n None = at_optional (codes "contextFilter") a_context (value_at (codes "contextFilter") n)
+either n (Some first) = cond (is_some (value_at (codes "contextFilter") n)) (Err (Bad (codes "contextFilter"))) (Ok (Some first))
+
+unfoldable pub context_at : Taken (Option Context)
+context_at n = and_then (at_optional (codes "context") a_context (value_at (codes "context") n)) (either n)
+
+abbrev pub context_keys : Keys (Option Context)
+context_keys = record { names = codes "context" ∷ codes "contextFilter" ∷ []; says = context_at }
+
+-- Texts by which changesets are known.
+
+-- 1 to 255 characters, none a control character
+abbrev pub is_label : List ℕ → Bool
+is_label bytes = nat_le 1 (char_count bytes) && (nat_le (char_count bytes) 255 && not (has_control bytes))
+
+-- a scalar that is printed as such a text
+abbrev pub a_label : Taken (List ℕ)
+a_label n = or_bad (option_and_then (if_so is_label) (printed_of n))
+
+-- What a changeset of a tree is read as.
 
 -- a key that may be there, with what it says where it is not
 abbrev pub defaulted : {A : Type 0} → A → Keys (Option A) → Keys A

@@ -1,23 +1,95 @@
--- The changes of a changeset, and what takes it back.
+-- How the readings of a changeset follow each other, and how they answer.
 use Rattle.std.specs.List.{position}
 use Rattle.std.specs.Option.{option_map, unwrap_or}
-use Rattle.std.specs.Prelude.{Bool, Err, List, None, Ok, Option, Result, Some, [], codes, cond, drop, false, option_and_then, suc, true, ℕ, ◌+◌, ◌++◌, ◌∷◌}
+use Rattle.std.specs.Prelude.{Bool, Err, List, None, Ok, Option, Result, Some, [], codes, cond, drop, false, if◌then◌else◌, option_and_then, suc, true, ℕ, ◌++◌, ◌+◌, ◌∷◌, ◌≡◌}
+use Rattle.std.specs.Str.{bytes_eq}
 use Rattle.lq_base.specs.declared.dialect.Dialect.{Dialect}
-use Rattle.lq_base.specs.declared.fault.KindFault.TheVariants.{Bad}
-use Rattle.lq_cond.specs.Dialects.{is_meant, names_in}
-use Rattle.lq_tree.specs.Found.{Found, Taken, map_found, within}
+use Rattle.lq_base.specs.declared.fault.KindFault.TheVariants.{Bad, Missing, NotFor, OutOfMemory, Unknown}
+use Rattle.lq_cond.specs.Kinds.{is_meant, names_in}
+use Rattle.lq_kinds.specs.AnyChange.{any_change}
+use Rattle.lq_kinds.specs.declared.any_change.AnyChange.{AnyChange}
+use Rattle.lq_kinds.specs.declared.any_change.AnyChange.TheVariants.{LoadData, TagDatabase}
+use Rattle.lq_kinds.specs.declared.fault.SetFault.{SetFault}
+use Rattle.lq_kinds.specs.declared.fault.SetFault.TheVariants.{BadPath, InKeys, Wants}
+use Rattle.lq_load.specs.LoadData.{load_data}
+use Rattle.lq_load.specs.LoadKeys.{load_keys}
 use Rattle.lq_tree.specs.Given.{a_text}
 use Rattle.lq_tree.specs.Items.{item_path, items_from}
 use Rattle.lq_tree.specs.Keys.{Keys, at_optional}
-use Rattle.lq_tree.specs.Look.{is_null, list_of, printed_of, value_at}
+use Rattle.lq_tree.specs.Look.{Found, Taken, is_null, list_of, map_found, map_of, printed_of, value_at, within}
 use Rattle.lq_tree.specs.declared.node.Node.{Map as MapNode, Node, Text as TextNode}
-use Rattle.lq_kinds.specs.AnyChange.{any_change}
-use Rattle.lq_kinds.specs.Loads.{Files, changes_from}
-use Rattle.lq_kinds.specs.SetReads.{by_keys, by_set}
-use Rattle.lq_kinds.specs.declared.any_change.AnyChange.{AnyChange}
-use Rattle.lq_kinds.specs.declared.any_change.AnyChange.TheVariants.{TagDatabase}
-use Rattle.lq_kinds.specs.declared.fault.SetFault.{SetFault}
-use Rattle.lq_kinds.specs.declared.fault.SetFault.TheVariants.{InKeys}
+
+-- a fault of the keys stops the reading
+abbrev pub by_keys : {A B : Type 0} → Found A → (A → Result B SetFault) → Result B SetFault
+by_keys (Ok a) f = f a
+by_keys (Err fault) f = Err (InKeys fault)
+
+-- so does any other
+abbrev pub by_set : {A B : Type 0} → Result A SetFault → (A → Result B SetFault) → Result B SetFault
+by_set (Ok a) f = f a
+by_set (Err fault) f = Err fault
+
+abbrev pub map_set : {A B : Type 0} → (A → B) → Result A SetFault → Result B SetFault
+map_set f (Ok a) = Ok (f a)
+map_set f (Err fault) = Err fault
+
+-- how a reading of a changeset answers: as it is meant, unless memory ran out
+abbrev pub ReadsSet : {A : Type 0} → Result A SetFault → Result A SetFault → Type 0
+ReadsSet meant (Ok a) = meant ≡ Ok a
+ReadsSet meant (Err BadPath) = meant ≡ Err BadPath
+ReadsSet meant (Err (Wants file relative)) = meant ≡ Err (Wants file relative)
+ReadsSet meant (Err (InKeys (Missing path))) = meant ≡ Err (InKeys (Missing path))
+ReadsSet meant (Err (InKeys (Unknown path))) = meant ≡ Err (InKeys (Unknown path))
+ReadsSet meant (Err (InKeys (Bad path))) = meant ≡ Err (InKeys (Bad path))
+ReadsSet meant (Err (InKeys (NotFor path dialect))) = meant ≡ Err (InKeys (NotFor path dialect))
+ReadsSet meant (Err (InKeys OutOfMemory)) = Unit {0}
+
+-- The changes of a changeset, of which some load files.
+
+-- the bytes of files
+abbrev pub Files : Type 0
+Files = List (List ℕ)
+
+abbrev pub load_entry : List (List ℕ × Node) → Option Node
+load_entry (e ∷ []) = if bytes_eq e.0 (codes "loadData") then Some e.1 else None
+load_entry _ = None
+
+abbrev pub load_in : Option (List (List ℕ × Node)) → Option Node
+load_in None = None
+load_in (Some es) = load_entry es
+
+-- what a node says of a load, if it is one: a map of the one key `loadData`
+abbrev pub load_of : Node → Option Node
+load_of n = load_in (map_of n)
+
+-- a load takes the next file's bytes; where no more are given it wants its file
+abbrev pub a_load : List ℕ → Files → Node → Result AnyChange SetFault
+a_load path [] n = by_keys (within path (within (codes "loadData") (load_keys n))) (λ keys. Err (Wants keys.file keys.is_relative))
+a_load path (bytes ∷ more) n = by_keys (within path (within (codes "loadData") (load_data bytes n))) (λ x. Ok (LoadData x))
+
+-- any other change needs no file
+abbrev pub change_of : Dialect → List ℕ → Files → Node → Option Node → Result AnyChange SetFault
+change_of d path given n None = by_keys (within path (any_change d n)) (λ x. Ok x)
+change_of d path given n (Some load) = a_load path given load
+
+abbrev pub change_at : Dialect → List ℕ → Files → Node → Result AnyChange SetFault
+change_at d path given n = change_of d path given n (load_of n)
+
+-- what is left for the changes behind one
+abbrev pub left_after : Files → Option Node → Files
+left_after given None = given
+left_after given (Some load) = drop 1 given
+
+abbrev pub left_by : Files → Node → Files
+left_by given n = left_after given (load_of n)
+
+-- each change of a list in order, from a place on, with the files' bytes that are given
+abbrev pub changes_from : Dialect → ℕ → Files → List Node → Result (List AnyChange) SetFault
+changes_from d place given [] = Ok []
+changes_from d place given (n ∷ ns) =
+    by_set (change_at d (item_path (codes "changes") place) given n) (λ x. map_set (λ more. x ∷ more) (changes_from d (place + 1) (left_by given n) ns))
+
+-- The changes of a changeset, and what takes it back.
 
 -- whether it is for the dialect
 

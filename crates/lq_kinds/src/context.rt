@@ -1,6 +1,6 @@
 ghost use Rattle.std.specs.Prelude.{◌≡◌, IfOk, true};
-ghost use Rattle.lq_tree.specs.Found.{Reads};
-ghost use Rattle.lq_kinds.specs.Context.{context_at, is_blank_text};
+ghost use Rattle.lq_tree.specs.Look.{Reads};
+ghost use Rattle.lq_kinds.specs.ChangeSets.{context_at, is_blank_text};
 
 use lq_base::{Items, KindFault, Text};
 use lq_expr::{Expr, ExprFault, parse, parse_names};
@@ -37,7 +37,7 @@ fn is_blank_text(text: &str) -> bool
 
 impl Reader for Contexts {
     ghost use Rattle.std.specs.Prelude.{true};
-    ghost use Rattle.lq_kinds.specs.Context.{a_context};
+    ghost use Rattle.lq_kinds.specs.ChangeSets.{a_context};
 
     type Read = Context;
 
@@ -66,7 +66,7 @@ impl Reader for Contexts {
 
 impl Reader for LabelLists {
     ghost use Rattle.std.specs.Prelude.{true};
-    ghost use Rattle.lq_kinds.specs.Context.{labels};
+    ghost use Rattle.lq_kinds.specs.ChangeSets.{labels};
 
     type Read = LabelNames;
 

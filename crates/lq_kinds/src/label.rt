@@ -1,5 +1,5 @@
 ghost use Rattle.std.specs.Prelude.{◌≡◌};
-ghost use Rattle.lq_kinds.specs.Label.{is_label};
+ghost use Rattle.lq_kinds.specs.ChangeSets.{is_label};
 
 use lq_base::{KindFault, Text, char_count, has_control};
 use lq_tree::{Given, Node, Reader, bad};
@@ -19,7 +19,7 @@ pub fn is_label(text: &str) -> bool
 pub struct Labels;
 
 impl Reader for Labels {
-    ghost use Rattle.lq_kinds.specs.Label.{a_label, is_label};
+    ghost use Rattle.lq_kinds.specs.ChangeSets.{a_label, is_label};
 
     type Read = Text;
 

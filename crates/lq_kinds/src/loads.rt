@@ -3,10 +3,9 @@ ghost use Rattle.std.specs.List.{list_all};
 ghost use Rattle.std.specs.Prelude.{◌≡◌, IfOk, [], codes, option_copied, true};
 ghost use Rattle.lq_load.specs.LoadData.{is_for as is_load_for, load_data};
 ghost use Rattle.lq_load.specs.LoadKeys.{load_keys};
-ghost use Rattle.lq_tree.specs.Found.{Reads, within};
+ghost use Rattle.lq_tree.specs.Look.{Reads, within};
 ghost use Rattle.lq_kinds.specs.AnyChange.{any_change, is_for};
-ghost use Rattle.lq_kinds.specs.Loads.{a_load, change_at, changes_from, left_by, load_of};
-ghost use Rattle.lq_kinds.specs.SetReads.{ReadsSet};
+ghost use Rattle.lq_kinds.specs.Changes.{a_load, change_at, changes_from, left_by, load_of, ReadsSet};
 
 use crate::any_change::AnyChange;
 use crate::changes::item_path;

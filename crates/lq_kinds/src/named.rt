@@ -1,5 +1,5 @@
 ghost use Rattle.std.specs.Prelude.{◌≡◌, IfOk, codes, true};
-ghost use Rattle.lq_tree.specs.Found.{Reads, map_found, within};
+ghost use Rattle.lq_tree.specs.Look.{Reads, map_found, within};
 ghost use Rattle.lq_kinds.specs.AnyChange.{is_for, named, named_key, named_other};
 ghost use Rattle.lq_kinds.specs.declared.any_change.AnyChange.TheVariants as any;
 ghost use Rattle.lq_columns.specs.AddDefaultValue as add_default_value;

@@ -1,10 +1,9 @@
 ghost use Rattle.std.specs.List.{list_all};
 ghost use Rattle.std.specs.Prelude.{◌≡◌, IfOk, option_copied, true};
-ghost use Rattle.lq_base.specs.Options.{if_there};
-ghost use Rattle.lq_tree.specs.Found.{Reads};
-ghost use Rattle.lq_kinds.specs.AnyChange.{is_for};
+ghost use Rattle.lq_base.specs.Number.{if_there};
+ghost use Rattle.lq_tree.specs.Look.{Reads};
+ghost use Rattle.lq_kinds.specs.AnyChange.{is_for, is_block_for, is_read_for};
 ghost use Rattle.lq_kinds.specs.ChangeSets.{ReadsSet, heading, is_quoting, notes, only_known, path_at, path_in, reaction_in, running, selection, set_of, sums_in};
-ghost use Rattle.lq_kinds.specs.Dialects.{is_block_for, is_read_for};
 
 use crate::change_set::ChangeSet;
 use crate::changes::{changes_at, here_at};

@@ -1,9 +1,8 @@
 ghost use Rattle.std.specs.List.{list_all};
 ghost use Rattle.std.specs.Prelude.{◌≡◌, ◌∷◌, [], IfOk, true};
-ghost use Rattle.lq_tree.specs.Found.{Reads};
+ghost use Rattle.lq_tree.specs.Look.{Reads};
 ghost use Rattle.lq_tree.specs.declared.node.Node.{Map as MapNode};
-ghost use Rattle.lq_kinds.specs.AnyChange.{is_for};
-ghost use Rattle.lq_kinds.specs.Dialects.{is_block_for};
+ghost use Rattle.lq_kinds.specs.AnyChange.{is_for, is_block_for};
 ghost use Rattle.lq_kinds.specs.Changes.{block, rollback_at, sql_change, sql_node, undoing, undoing_text};
 
 use crate::any_change::AnyChange;

@@ -1,5 +1,5 @@
 ghost use Rattle.std.specs.Prelude.{◌≡◌, ◌++◌, IfOk, OnOk, map};
-ghost use Rattle.lq_model.specs.Canon.{IsFinished, canonical_changes, canonical_each};
+ghost use Rattle.lq_model.specs.Changes.{IsFinished, canonical_changes, canonical_each};
 ghost use Rattle.lq_kinds.specs.AnyChange.{canonical_of};
 ghost use Rattle.lq_kinds.specs.ChangeSets.{old_sum_of, sum_of};
 

@@ -1,11 +1,9 @@
 -- The two parts of a file, from the slices of its lines before and behind the line `steps`.
 use Rattle.std.proofs.Common.{◌≡◌, ◌∙◌, ◌<◌, ◌+◌, ◌-◌, ℕ, List, length, map, take, drop, Option, Some, None, Bor, refl, sym, ap, arith}
 use Rattle.std.proofs.lemmas.List.{drop-map, length-map, length-take-le, take-map, take_rest}
-use Rattle.lq_cli.specs.Values.{each}
+use Rattle.lq_cli.specs.Options.{each}
 use Rattle.lq_cli.specs.declared.line.Line.{Line}
-use Rattle.lq_lines.specs.Commands.{command_of}
-use Rattle.lq_lines.specs.File.{both_of}
-use Rattle.lq_lines.specs.Steps.{steps_of}
+use Rattle.lq_lines.specs.File.{command_of, both_of, steps_of}
 
 pub counted : (lines : List (Bor (List ℕ))) (place : ℕ) → place < length lines → length (take place (map (λ line. line.now) lines)) ≡ place
 counted lines place lt = length-take-le place (map (λ line. line.now) lines) (rw (length-map lines (λ (line : Bor (List ℕ)). line.now)) (omega arith))

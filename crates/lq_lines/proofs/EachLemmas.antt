@@ -2,8 +2,8 @@
 use Rattle.std.proofs.Common.{◌≡◌, ◌∙◌, ◌<◌, ◌+◌, ℕ, List, [], ◌∷◌, ◌++◌, length, map, drop, get_or, Option, Some, None, option_and_then, option_map, Bor, append_assoc, append-nil, refl, sym, ap}
 use Rattle.std.proofs.lemmas.List.{drop_more}
 use Rattle.std.specs.List.{flat_map}
-use Rattle.lq_cli.specs.Values.{each}
-use Rattle.lq_lines.specs.Steps.{numbers_in}
+use Rattle.lq_cli.specs.Options.{each}
+use Rattle.lq_lines.specs.File.{numbers_in}
 
 abbrev behind : {B : Type 0} → List B → Option (List B) → Option (List B)
 behind front found = option_map (λ more. front ++ more) found

@@ -1,6 +1,6 @@
 -- A fault that is handed on.
 use Rattle.std.proofs.Common.{◌≡◌, Option, None, Result, Err, sym, subst}
-use Rattle.lq_lines.specs.Gives.{Gives}
+use Rattle.lq_lines.specs.File.{Gives}
 use Rattle.lq_lines.specs.declared.fault.LinesFault.{LinesFault}
 use Rattle.lq_lines.specs.declared.fault.LinesFault.TheVariants.{Usage, OutOfMemory}
 

@@ -8,12 +8,9 @@ use Rattle.std.proofs.lemmas.List.Elements.{All-cons, All-nil}
 use Rattle.lq_base.specs.Kind.{plain_number}
 use Rattle.lq_base.specs.declared.dialect.Dialect.{Dialect}
 use Rattle.lq_cli.specs.Line.{line_of}
-use Rattle.lq_cli.specs.Values.{each, number_from}
+use Rattle.lq_cli.specs.Options.{each, number_from}
 use Rattle.lq_cli.specs.declared.line.Line.{Line}
-use Rattle.lq_lines.specs.Commands.{command_of, is_empty, is_run, only_run, url_word, with_url, words_in}
-use Rattle.lq_lines.specs.File.{both_of, cut_lines, is_steps, lines_in, lines_of, lines_with}
-use Rattle.lq_lines.specs.Form.{HasForm}
-use Rattle.lq_lines.specs.Steps.{at_most, numbers_in, step_of, steps_of}
+use Rattle.lq_lines.specs.File.{command_of, is_empty, is_run, only_run, url_word, with_url, words_in, both_of, cut_lines, is_steps, lines_in, lines_of, lines_with, HasForm, at_most, numbers_in, step_of, steps_of}
 use Rattle.lq_lines.specs.declared.lines.Lines.{Lines}
 
 -- ---- options taken apart

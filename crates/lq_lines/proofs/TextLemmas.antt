@@ -3,9 +3,7 @@ use Rattle.std.proofs.Common.{◌≡◌, ℕ, Bool, true, false, List, None, Res
 use Rattle.std.specs.Str.{IsUtf8, is_utf8}
 use Rattle.std.proofs.lemmas.Str.{IsUtf8-from_is_utf8, is_utf8-from_IsUtf8}
 use Rattle.lq_base.specs.declared.dialect.Dialect.{Dialect}
-use Rattle.lq_lines.specs.Commands.{url_word}
-use Rattle.lq_lines.specs.File.{cut_lines, lines_in, lines_of}
-use Rattle.lq_lines.specs.Gives.{Gives}
+use Rattle.lq_lines.specs.File.{url_word, cut_lines, lines_in, lines_of, Gives}
 use Rattle.lq_lines.specs.declared.fault.LinesFault.{LinesFault}
 use Rattle.lq_lines.specs.declared.lines.Lines.{Lines}
 

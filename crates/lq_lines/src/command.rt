@@ -1,8 +1,7 @@
 ghost use Rattle.std.specs.Prelude.{◌≡◌, ◌∷◌, IfOk, map, string_bytes};
 ghost use Rattle.std.specs.List.{list_any};
 ghost use Rattle.lq_cli.specs.Line.{line_of};
-ghost use Rattle.lq_lines.specs.Commands.{command_of, is_empty, is_run, only_run, with_url, words_in};
-ghost use Rattle.lq_lines.specs.Gives.{Gives};
+ghost use Rattle.lq_lines.specs.File.{command_of, is_empty, is_run, only_run, with_url, words_in, Gives};
 
 use crate::fault::LinesFault;
 use lq_cli::{Job, Line, WordsFault, read_words};

@@ -1,10 +1,7 @@
 ghost use Rattle.std.specs.Prelude.{◌≡◌, ◌<◌, ◌≤◌, ◌+◌, IfErr, IfOk, IfSome, drop, length, map, take};
 ghost use Rattle.std.specs.List.{position};
-ghost use Rattle.lq_cli.specs.Values.{each};
-ghost use Rattle.lq_lines.specs.Commands.{command_of, url_word};
-ghost use Rattle.lq_lines.specs.File.{both_of, cut_lines, is_steps, lines_in, lines_of, lines_with};
-ghost use Rattle.lq_lines.specs.Form.{HasForm};
-ghost use Rattle.lq_lines.specs.Gives.{Gives};
+ghost use Rattle.lq_cli.specs.Options.{each};
+ghost use Rattle.lq_lines.specs.File.{command_of, url_word, both_of, cut_lines, is_steps, lines_in, lines_of, lines_with, HasForm, Gives};
 
 use crate::command::command_of;
 use crate::fault::LinesFault;

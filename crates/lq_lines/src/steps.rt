@@ -1,9 +1,8 @@
 ghost use Rattle.std.specs.Prelude.{◌≡◌, ◌++◌, IfOk, filter, map, option_map};
 ghost use Rattle.std.specs.List.{flat_map, slice_split};
 ghost use Rattle.lq_base.specs.Kind.{is_blank};
-ghost use Rattle.lq_cli.specs.Values.{each};
-ghost use Rattle.lq_lines.specs.Gives.{Gives};
-ghost use Rattle.lq_lines.specs.Steps.{is_word, numbers_in, step_of, steps_of};
+ghost use Rattle.lq_cli.specs.Options.{each};
+ghost use Rattle.lq_lines.specs.File.{Gives, is_word, numbers_in, step_of, steps_of};
 
 use crate::fault::LinesFault;
 use lq_base::{Items, plain_number};

@@ -5,8 +5,7 @@ use Rattle.std.proofs.lemmas.List.{length-set}
 use denote.RawPtr.{Ptr}
 use Rattle.lq_links.specs.declared.node.Node.{Node}
 use Rattle.lq_links.specs.declared.node.Spot.{Spot}
-use Rattle.lq_links.specs.Nodes.{Has, with_at, node, first_or, last_or, Linked, NotIn, NotInIf, Apart, IsThere, IsThereIf}
-use Rattle.lq_links.specs.State.{State, put, with_next, with_prev, led_on, led_back, joined, rejoined, node_of, relinked_node, relinked, CanRelink, CanPop}
+use Rattle.lq_links.specs.State.{Has, with_at, node, first_or, last_or, Linked, NotIn, NotInIf, Apart, IsThere, IsThereIf, State, put, with_next, with_prev, led_on, led_back, joined, rejoined, node_of, relinked_node, relinked, CanRelink, CanPop}
 use Rattle.lq_links.proofs.ShapeLemmas.{some_not, some_same, has_other, has_same, linked_other, linked_cut, snoc, last_snoc, first_snoc, last_notin, first_notin, relast, apart_cut}
 
 set_back : {A : Type 0} → (xs : List A) (i : ℕ) (w v : A) → slice_get xs i ≡ Some v → set (set xs i w) i v ≡ xs

@@ -4,7 +4,7 @@ use Rattle.std.specs.Prelude.{slice_get}
 use denote.RawPtr.{Ptr}
 use Rattle.lq_links.specs.declared.node.Node.{Node}
 use Rattle.lq_links.specs.declared.node.Spot.{Spot}
-use Rattle.lq_links.specs.Nodes.{Has, with_at, node, first_or, last_or, Linked, NotIn, NotInIf, Apart, IsThereIf}
+use Rattle.lq_links.specs.State.{Has, with_at, node, first_or, last_or, Linked, NotIn, NotInIf, Apart, IsThereIf}
 
 pub get_set_other : {A : Type 0} → (xs : List A) (i j : ℕ) (a : A) → j ≢ i → slice_get (set xs i a) j ≡ slice_get xs j
 get_set_other [] i j a d = refl

@@ -1,8 +1,7 @@
 //! Nodes made, freed, and joined to one another.
 ghost use Rattle.std.specs.Prelude.{◌≡◌, length, IfErr, OnErr, IfOk};
 ghost use Rattle.lq_nodes.specs.Slots.{without_node};
-ghost use Rattle.lq_links.specs.Nodes.{IsThere, IsThereIf, node};
-ghost use Rattle.lq_links.specs.State.{state_of, nothing, Ties, led_on, led_back, joined, rejoined, grown, popped, CanRelink, CanPop, relinked};
+ghost use Rattle.lq_links.specs.State.{IsThere, IsThereIf, node, state_of, nothing, Ties, led_on, led_back, joined, rejoined, grown, popped, CanRelink, CanPop, relinked};
 
 use crate::Refused;
 use crate::node::{Links, Node, Spot};

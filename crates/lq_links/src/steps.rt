@@ -1,7 +1,6 @@
 //! Steps from node to node.
 ghost use Rattle.std.specs.Prelude.{◌≡◌, Option};
-ghost use Rattle.lq_links.specs.Nodes.{Has, IsThere};
-ghost use Rattle.lq_links.specs.State.{with_next, with_prev};
+ghost use Rattle.lq_links.specs.State.{Has, IsThere, with_next, with_prev};
 ghost use Rattle.lq_links.specs.declared.node.Node.{Node};
 
 use crate::node::{Node, Spot};

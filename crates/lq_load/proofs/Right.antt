@@ -10,13 +10,12 @@ use Rattle.lq_base.specs.declared.fault.KindFault.TheVariants.{Bad}
 use Rattle.lq_base.specs.declared.name.Name.{Name}
 use Rattle.lq_model.proofs.Lists.{and_left, and_right, and_true}
 use Rattle.lq_tree.proofs.Says.{IsSo, Takes, anything, change_so, given, name_so, required_so, start, then_so}
-use Rattle.lq_tree.specs.Found.{Reads}
+use Rattle.lq_tree.specs.Look.{Reads}
 use Rattle.lq_tree.specs.Given.{a_text, a_truth}
 use Rattle.lq_tree.specs.Keys.{optional, required}
 use Rattle.lq_tree.specs.Items.{are_some}
 use Rattle.lq_load.specs.LoadData.{is_for, load_data, rows_found}
-use Rattle.lq_load.specs.LoadKeys.{a_separator, keys as load_keys_of, load_keys}
-use Rattle.lq_load.specs.Records.{records_in}
+use Rattle.lq_load.specs.LoadKeys.{a_separator, keys as load_keys_of, load_keys, records_in}
 use Rattle.lq_load.specs.Rows.{Records, is_column, is_row}
 use Rattle.lq_load.specs.declared.load_data.LoadData.{LoadData}
 

@@ -2,8 +2,8 @@
 use Rattle.std.proofs.Common.{List, ap, arith, drop, length, slice_index_or, suc, sym, ℕ, ◌+◌, ◌++◌, ◌<◌, ◌∙◌, ◌≡◌, ◌≤◌}
 use Rattle.std.proofs.Math.Seq.{drop-cons}
 use Rattle.std.proofs.lemmas.List.{append-nil, append_assoc, drop_all}
-use Rattle.lq_model.specs.Canon.{canonical, canonical_values, list}
-use Rattle.lq_model.specs.Written.{texts}
+use Rattle.lq_model.specs.Changes.{canonical, canonical_values, list}
+use Rattle.lq_model.specs.TakesBack.{texts}
 use Rattle.lq_load.specs.LoadData.{lists}
 use Rattle.lq_load.specs.Rows.{Records}
 

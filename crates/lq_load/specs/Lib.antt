@@ -1,5 +1,3 @@
 pub mod LoadData
-pub mod LoadDataLaws
 pub mod LoadKeys
-pub mod Records
 pub mod Rows

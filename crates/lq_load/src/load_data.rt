@@ -1,7 +1,7 @@
 ghost use Rattle.std.specs.Prelude.{◌≡◌, IfOk, map, true};
 ghost use Rattle.csv.specs.Records.{fields_of};
 ghost use Rattle.lq_base.specs.Name.{is_name};
-ghost use Rattle.lq_tree.specs.Found.{Reads};
+ghost use Rattle.lq_tree.specs.Look.{Reads};
 ghost use Rattle.lq_load.specs.LoadData.{is_for, load_data, rows_found};
 
 use crate::inserts::push_inserts;
@@ -89,8 +89,7 @@ impl LoadData {
 }
 
 impl Change for LoadData {
-    ghost use Rattle.lq_load.specs.LoadData.{canonical_of, effect, gives, inverse, is_for, is_fresh};
-    ghost use Rattle.lq_load.specs.LoadDataLaws.{does, restores, returned, spelled, told};
+    ghost use Rattle.lq_load.specs.LoadData.{canonical_of, effect, gives, inverse, is_for, is_fresh, does, restores, returned, spelled, told};
     ghost use Rattle.lq_load.specs.declared.load_data.LoadData.{LoadData};
 
     ghost Key = { LoadData };

@@ -3,7 +3,7 @@ ghost use Rattle.std.specs.Prelude.{◌≡◌, IfOk, map};
 ghost use Rattle.csv.specs.Reading.{AreRecords, strip_bom};
 ghost use Rattle.csv.specs.Records.{fields_of};
 ghost use Rattle.csv.specs.declared.parser.State.TheVariants as st;
-ghost use Rattle.lq_load.specs.Records.{config, records_in};
+ghost use Rattle.lq_load.specs.LoadKeys.{config, records_in};
 
 use csv::{ByteRecord, Error, ReaderBuilder};
 use lq_base::NoMemory;

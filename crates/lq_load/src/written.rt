@@ -1,7 +1,7 @@
 //! Rows in canonical text.
 ghost use Rattle.std.specs.Prelude.{◌≡◌, ◌++◌, OnErr, OnOk};
-ghost use Rattle.lq_model.specs.Canon.{GoesOn, canonical, canonical_values, list};
-ghost use Rattle.lq_model.specs.Written.{texts};
+ghost use Rattle.lq_model.specs.Changes.{GoesOn, canonical, canonical_values, list};
+ghost use Rattle.lq_model.specs.TakesBack.{texts};
 ghost use Rattle.lq_load.specs.LoadData.{lists};
 
 use lq_base::{Items, NoMemory, Text};
@@ -63,7 +63,7 @@ fn write_list(to: &mut Canon, rows: &[Items<Text>]) -> Result<(), NoMemory>
 
 impl Written for RowsAt<'_> {
     ghost use Rattle.std.specs.Prelude.{◌∷◌, [], Some, codes};
-    ghost use Rattle.lq_model.specs.Canon.{list};
+    ghost use Rattle.lq_model.specs.Changes.{list};
     ghost use Rattle.lq_load.specs.LoadData.{lists};
 
     ghost rows = { λ at. (codes "rows", Some (list (lists at.rows.now))) ∷ [] };

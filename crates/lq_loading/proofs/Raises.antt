@@ -1,7 +1,7 @@
 -- An engine brought to what entries stand for.
 use Rattle.std.proofs.Common.{◌≡◌, ◌∙◌, ◌&&◌, ◌||◌, drop, not, is_some, ℕ, Bool, true, false, cond, List, [], ◌∷◌, map, arith, Ok, Err, Result, Option, None, Some, IfSome, refl, sym, ap, subst}
 use Rattle.lq_base.specs.declared.dialect.Dialect.{Dialect}
-use Rattle.lq_store.specs.Apart.{is_apart}
+use Rattle.lq_store.specs.Journal.{is_apart, accepted, run_text, run_texts}
 use Rattle.lq_store.specs.Executor.{Held, Runs, forgotten, holding, kept}
 use Rattle.lq_store.specs.declared.fault.RunFault.{RunFault}
 use Rattle.laws_codec.specs.Written.{StatesAreSound}
@@ -12,8 +12,7 @@ use Rattle.lq_entries.specs.Load.{fold_body, folded, if_clean, is_clean, is_clea
 use Rattle.lq_base.specs.declared.tracking.Lock.{Lock}
 use Rattle.lq_base.specs.declared.tracking.Tracked.{Tracked}
 use Rattle.lq_track.specs.Database.{Database, database_of, has_twin_rows, lock_of, rows_of, users_of}
-use Rattle.lq_frames.specs.Body.{is_state}
-use Rattle.lq_frames.specs.Journal.{has_state}
+use Rattle.lq_frames.specs.Body.{is_state, has_state}
 use Rattle.lq_frames.specs.declared.entry.Body.{Body}
 use Rattle.lq_frames.specs.declared.entry.Body.TheVariants.{State, Texts}
 use Rattle.lq_journal.specs.declared.fault.LoadFault.{LoadFault}
@@ -27,12 +26,10 @@ use Rattle.lq_model.specs.Sound.{IsSound}
 use Rattle.lq_model.proofs.Maps.{not_some}
 use Rattle.lq_model.specs.Catalogue.{Catalogue, no_objects}
 use Rattle.lq_model.proofs.KeepsSound.{statement_keeps}
-use Rattle.lq_model.specs.Statement.{is_statement}
+use Rattle.lq_model.specs.Step.{is_statement, step}
 use Rattle.lq_model.specs.SqlText.{statement_in}
-use Rattle.lq_model.specs.Step.{step}
 use Rattle.lq_model.specs.declared.caller.By.TheVariants.{Program}
 use Rattle.lq_model.specs.declared.statement.Statement.{Statement}
-use Rattle.lq_store.specs.Journal.{accepted, run_text, run_texts}
 
 -- the program's run of a text that ran
 pub ran_text : (d : Dialect) (by : By) (text : List ℕ) (s : Statement) (c e : Catalogue) (n : ℕ) → statement_in d text ≡ Some s → step by d s c ≡ Ok (e, n) → run_text d text c ≡ Some e

@@ -8,11 +8,10 @@ use Rattle.std.specs.List.{list_any}
 use Rattle.std.specs.Ordering.{is_eq, nat_cmp, ordering_then}
 use Rattle.std.specs.declared.cmp.Ordering.{Ordering}
 use Rattle.std.specs.declared.cmp.Ordering.TheVariants.{Equal, Greater, Less}
-use Rattle.lq_base.specs.Name.{is_named}
-use Rattle.lq_base.specs.Text.{text_cmp}
+use Rattle.lq_base.specs.Name.{is_named, text_cmp}
 use Rattle.lq_base.specs.declared.identity.Identity.{Identity}
 use Rattle.lq_base.specs.declared.tracking.Tracked.{Tracked}
-use Rattle.lq_loading.specs.Twins.{IdentityKey, IsSeen, Sees, identity_at, is_twin, key_cmp}
+use Rattle.lq_loading.specs.Raise.{IdentityKey, IsSeen, Sees, identity_at, is_twin, key_cmp}
 use Rattle.lq_loading.specs.declared.twins.Seen.{Seen}
 use Rattle.lq_model.proofs.Lists.{named_itself, same_name, true_false}
 use Rattle.lq_track.specs.Database.{has_twin_rows, same_identity}

@@ -2,7 +2,7 @@ ghost use Rattle.std.specs.Prelude.{◌≡◌, drop, false, IfOk, MatchOption, M
 ghost use Rattle.lq_codec.specs.State.{state_of};
 ghost use Rattle.lq_loading.specs.Raise.{BeginsWith, Folds, IsAt, IsCleanLock, IsRaised, MayNotRaise, MayNotRead, Ran};
 ghost use Rattle.lq_entries.specs.Load.{folded};
-ghost use Rattle.lq_frames.specs.Journal.{has_state};
+ghost use Rattle.lq_frames.specs.Body.{has_state};
 ghost use Rattle.lq_model.specs.Catalogue.{no_objects};
 ghost use Rattle.lq_store.specs.Journal.{run_text, run_texts};
 ghost use Rattle.lq_track.specs.Database.{lock_of, rows_of};

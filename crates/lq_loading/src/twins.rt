@@ -1,6 +1,6 @@
 ghost use Rattle.std.specs.Prelude.{◌≡◌, IfOk, List};
 ghost use Rattle.lq_base.specs.declared.tracking.Tracked.{Tracked as TrackedValue};
-ghost use Rattle.lq_loading.specs.Twins.{IsSeen, Sees};
+ghost use Rattle.lq_loading.specs.Raise.{IsSeen, Sees};
 ghost use Rattle.lq_track.specs.Database.{has_twin_rows};
 
 use lq_base::{NoMemory, Tracked};

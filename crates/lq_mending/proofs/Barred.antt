@@ -5,7 +5,7 @@ use Rattle.std.specs.List.{after_first, list_any, position_or_len}
 use Rattle.std.specs.Prelude.{Bool, Err, List, None, Ok, Option, Result, Some, [], codes, drop, false, if◌then◌else◌, option_and_then, pos, suc, true, zero, ℕ, ◌+◌, ◌==◌, ◌++◌, ◌||◌, ◌∷◌, ◌≡◌, ◌⊎◌}
 use Rattle.laws_repair.specs.Repair.{back_calls, marked_text, repair_calls, undo_calls}
 use Rattle.lq_base.specs.Number.{whole_text}
-use Rattle.lq_base.specs.Tracking.{identity_text}
+use Rattle.lq_base.specs.Name.{identity_text}
 use Rattle.lq_base.specs.declared.dialect.Dialect.{Dialect}
 use Rattle.lq_base.specs.declared.dialect.Dialect.TheVariants.{Mysql, Postgresql}
 use Rattle.lq_base.specs.declared.identity.Identity.{Identity}
@@ -21,8 +21,7 @@ use Rattle.lq_report.specs.Mark.{Marked as Told, at_last_bar, lock_mark, mark_of
 use Rattle.lq_reverse.specs.Back.{back}
 use Rattle.lq_run.proofs.Resting.{bar_in}
 use Rattle.lq_track.specs.Database.{Database}
-use Rattle.lq_turns.specs.Contents.{Contents, contents_of, with_contents}
-use Rattle.lq_turns.specs.Deed.{all_done, contents_after, if_accepted, locked_after}
+use Rattle.lq_turns.specs.Deed.{Contents, contents_of, with_contents, all_done, contents_after, if_accepted, locked_after}
 use Rattle.lq_turns.specs.Script.{closing}
 use Rattle.lq_turns.specs.Session.{Session, all_called, called, executed_as, is_own, session_on, settled_if}
 use Rattle.lq_turns.specs.Stops.{Journal, joined}

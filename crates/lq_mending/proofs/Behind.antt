@@ -18,9 +18,7 @@ use Rattle.lq_run.specs.Stands.{entries_of, entry_of}
 use Rattle.lq_run.specs.declared.runner.End.{End}
 use Rattle.lq_run.specs.declared.runner.End.TheVariants as end
 use Rattle.lq_statement.specs.Laws.{StatementsReadBack}
-use Rattle.lq_store.specs.Crashes.{Crashes, CrashesLeave}
-use Rattle.lq_store.specs.Journal.{Entry, end_of, is_full}
-use Rattle.lq_store.specs.State.{State}
+use Rattle.lq_store.specs.Journal.{Crashes, CrashesLeave, Entry, end_of, is_full, State}
 use Rattle.lq_track.specs.Database.{Database}
 use Rattle.lq_turns.proofs.Growing.{fronts_are_left}
 use Rattle.lq_turns.proofs.Made.{calls_both}

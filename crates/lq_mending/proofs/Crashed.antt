@@ -9,14 +9,10 @@ use Rattle.lq_hand.specs.declared.hand.Hand.{Hand}
 use Rattle.lq_run.proofs.Since.{leave_from}
 use Rattle.lq_run.specs.Crashing.{CrashesTaken, LeftAlone, LeftInCall, LeftInNext}
 use Rattle.lq_run.specs.Ends.{IsBefore}
-use Rattle.lq_run.specs.NoChanges.{no_changes}
-use Rattle.lq_run.specs.Stands.{Stands, entries_of, entry_of}
-use Rattle.lq_store.specs.Crashes.{Crashes, CrashesLeave}
-use Rattle.lq_store.specs.Journal.{Entry}
-use Rattle.lq_store.specs.State.{State}
-use Rattle.lq_turns.specs.Rest.{NoMore, rest}
+use Rattle.lq_run.specs.Stands.{no_changes, Stands, entries_of, entry_of}
+use Rattle.lq_store.specs.Journal.{Crashes, CrashesLeave, Entry, State}
+use Rattle.lq_turns.specs.Rest.{NoMore, rest, both_of}
 use Rattle.lq_turns.specs.Session.{Session, called}
-use Rattle.lq_turns.specs.Stepped.{both_of}
 use Rattle.lq_turns.specs.Stops.{Journal}
 use Rattle.lq_turns.specs.declared.call.Call.{Call}
 use Rattle.lq_turns.specs.declared.stamp.Stamp.{Stamp}

@@ -8,19 +8,16 @@ use Rattle.lq_base.specs.declared.identity.Identity.{Identity}
 use Rattle.lq_base.specs.declared.reason.Reason.{Reason}
 use Rattle.lq_beside.specs.Replays.{call_fits, calls_fit}
 use Rattle.lq_model.proofs.Lists.{and_left, and_right, and_true}
-use Rattle.lq_model.specs.Statement.{is_statement}
+use Rattle.lq_model.specs.Step.{is_statement}
 use Rattle.lq_model.specs.declared.statement.Statement.{Statement}
 use Rattle.lq_repair.proofs.Laid.{IsSpelled, back_spelled}
 use Rattle.lq_reverse.specs.Back.{back}
-use Rattle.lq_run.specs.NoChanges.{no_changes}
+use Rattle.lq_run.specs.Stands.{no_changes}
 use Rattle.lq_track.specs.Database.{Database}
-use Rattle.lq_turns.specs.Contents.{Contents, contents_of, with_contents}
-use Rattle.lq_turns.specs.Deed.{contents_after, if_accepted, locked_after}
-use Rattle.lq_turns.specs.Goes.{are_accepted, went}
-use Rattle.lq_turns.specs.Rest.{Inside, NoMore, rest}
+use Rattle.lq_turns.specs.Deed.{Contents, contents_of, with_contents, contents_after, if_accepted, locked_after}
+use Rattle.lq_turns.specs.Session.{are_accepted, went, Session, called, executed_as, is_own, session_on, settled_if}
+use Rattle.lq_turns.specs.Rest.{Inside, NoMore, rest, both_of}
 use Rattle.lq_turns.specs.Script.{closing}
-use Rattle.lq_turns.specs.Session.{Session, called, executed_as, is_own, session_on, settled_if}
-use Rattle.lq_turns.specs.Stepped.{both_of}
 use Rattle.lq_turns.specs.Turn.{made, made_on}
 use Rattle.lq_turns.specs.declared.call.Call.{Call}
 use Rattle.lq_turns.specs.declared.call.Call.TheVariants.{Abort, Alone, Begin, Commit, Execute}

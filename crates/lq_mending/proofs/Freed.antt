@@ -13,14 +13,11 @@ use Rattle.lq_run.proofs.Left.{ok_err}
 use Rattle.lq_run.specs.Crashing.{CrashesFor}
 use Rattle.lq_run.specs.Does.{AloneFor, Breaks, DoesAlone, HasNoRoom}
 use Rattle.lq_run.specs.Ends.{IsBefore}
-use Rattle.lq_run.specs.NoChanges.{no_changes}
-use Rattle.lq_run.specs.Stands.{IsBegun, Stands, entries_of}
+use Rattle.lq_run.specs.Stands.{no_changes, IsBegun, Stands, entries_of}
 use Rattle.lq_run.specs.Steps.{end_of}
 use Rattle.lq_run.specs.declared.runner.End.TheVariants as end
-use Rattle.lq_store.specs.Crashes.{Crashes, CrashesLeave}
-use Rattle.lq_store.specs.Journal.{end_of as room_end, is_full, size_of_all}
-use Rattle.lq_store.specs.State.{State, Transaction, is_open}
-use Rattle.lq_turns.specs.Held.{all_fit}
+use Rattle.lq_store.specs.Journal.{Crashes, CrashesLeave, end_of as room_end, is_full, size_of_all, State, Transaction, is_open}
+use Rattle.lq_turns.specs.Schedule.{all_fit}
 use Rattle.lq_turns.specs.Script.{closing}
 use Rattle.lq_turns.specs.Session.{Session, called}
 use Rattle.lq_turns.specs.declared.deed.Deed.TheVariants.{Locks}

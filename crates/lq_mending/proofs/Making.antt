@@ -4,8 +4,7 @@ use Rattle.std.specs.Prelude.{Bool, Err, List, None, Ok, Option, Result, [], len
 use Rattle.lq_base.specs.declared.dialect.Dialect.{Dialect}
 use Rattle.lq_base.specs.declared.reason.Reason.{Reason}
 use Rattle.lq_turns.proofs.Made.{after_ok}
-use Rattle.lq_turns.specs.Contents.{Contents, contents_of, with_contents}
-use Rattle.lq_turns.specs.Deed.{contents_after, if_accepted, locked_after}
+use Rattle.lq_turns.specs.Deed.{Contents, contents_of, with_contents, contents_after, if_accepted, locked_after}
 use Rattle.lq_turns.specs.Session.{Session, all_called, called, executed_as, is_own}
 use Rattle.lq_turns.specs.Turn.{made as made_by, made_on}
 use Rattle.lq_turns.specs.declared.call.Call.{Call}
@@ -16,9 +15,9 @@ use Rattle.lq_hand.specs.declared.hand.Hand.{Hand}
 use Rattle.lq_hand.specs.declared.hand.Phase.TheVariants as phase
 use Rattle.lq_run.proofs.Grows.{came_on}
 use Rattle.lq_run.specs.Ends.{CameFrom}
-use Rattle.lq_run.specs.NoChanges.{no_changes}
+use Rattle.lq_run.specs.Stands.{no_changes}
 use Rattle.lq_run.specs.declared.hand.Moved.TheVariants as moved
-use Rattle.lq_store.specs.State.{State}
+use Rattle.lq_store.specs.Journal.{State}
 use Rattle.lq_turns.specs.Rest.{NoMore}
 use Rattle.lq_turns.specs.declared.stamp.Stamp.{Stamp}
 use Rattle.lq_run.specs.Moves.{TakesAs, reason_in, refusal_of}

@@ -3,11 +3,9 @@ use Rattle.std.proofs.Common.{ap, subst, sym, ◌∙◌}
 use Rattle.std.proofs.Math.Seq.{take-append_seam}
 use Rattle.std.specs.Prelude.{None, Some, [], length, option_and_then, suc, take, ◌<◌, ◌^◌, ◌≡◌}
 use Rattle.laws_repair.proofs.Repaired.{repair_leaves}
-use Rattle.laws_repair.specs.LastText.{is_mark_text}
-use Rattle.laws_repair.specs.Mended.{Mark, by_of}
-use Rattle.laws_repair.specs.Repair.{IsWhole, marked_text, repair_calls, standing}
+use Rattle.laws_repair.specs.Repair.{is_mark_text, Mark, by_of, IsWhole, marked_text, repair_calls, standing}
 use Rattle.lq_base.specs.Kind.{plain_number}
-use Rattle.lq_base.specs.Tracking.{identity_text}
+use Rattle.lq_base.specs.Name.{identity_text}
 use Rattle.lq_base.specs.declared.tracking.Lock.{Lock}
 use Rattle.lq_turns.specs.Session.{left_by}
 use Rattle.lq_turns.specs.Within.{marks_last}

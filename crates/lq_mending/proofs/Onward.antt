@@ -7,13 +7,11 @@ use Rattle.lq_model.specs.declared.caller.Room.{Room}
 use Rattle.lq_model.specs.declared.caller.Room.TheVariants.{Ordinary, Release}
 use Rattle.lq_run.proofs.Grows.{calls_grow}
 use Rattle.lq_run.specs.Ends.{IsBefore}
-use Rattle.lq_run.specs.NoChanges.{no_changes}
-use Rattle.lq_turns.specs.Contents.{Contents, contents_of}
-use Rattle.lq_turns.specs.Deed.{contents_after}
-use Rattle.lq_turns.specs.Goes.{Both, are_accepted, went}
+use Rattle.lq_run.specs.Stands.{no_changes}
+use Rattle.lq_turns.specs.Deed.{Contents, contents_of, contents_after}
+use Rattle.lq_turns.specs.Session.{Both, are_accepted, went, Session, all_called, called, room_of}
 use Rattle.lq_turns.specs.Rest.{Inside, NoMore, if_goes_on, rest, turns_calls}
 use Rattle.lq_turns.specs.Script.{closing}
-use Rattle.lq_turns.specs.Session.{Session, all_called, called, room_of}
 use Rattle.lq_turns.specs.Turn.{made, made_on}
 use Rattle.lq_turns.specs.declared.call.Call.{Call}
 use Rattle.lq_turns.specs.declared.call.Call.TheVariants.{Abort, Alone, Begin, Commit, Execute}

@@ -3,20 +3,17 @@ use Rattle.std.proofs.Common.{ap, arith, inr, subst, sym, ◌∙◌}
 use Rattle.std.specs.List.{list_all}
 use Rattle.std.specs.Option.{option_or}
 use Rattle.std.specs.Prelude.{Bool, Err, IfErr, IfOk, List, None, Ok, Option, Result, Some, false, if◌then◌else◌, is_none, is_some, length, suc, true, zero, ℕ, ◌&&◌, ◌≡◌, ◌≤◌, ◌||◌, ◌⊎◌}
-use Rattle.laws_repair.specs.LastText.{is_mark_text}
-use Rattle.laws_repair.specs.Mended.{by_of}
-use Rattle.laws_repair.specs.Repair.{standing}
+use Rattle.laws_repair.specs.Repair.{is_mark_text, by_of, standing}
 use Rattle.lq_base.specs.Kind.{plain_number}
 use Rattle.lq_base.specs.declared.dialect.Dialect.{Dialect}
 use Rattle.lq_base.specs.declared.tracking.Lock.{Lock}
 use Rattle.lq_expr.specs.declared.options.Options.{Options}
 use Rattle.lq_kinds.specs.declared.any_change.AnyChange.{AnyChange}
-use Rattle.lq_model.specs.Statement.{is_statement}
+use Rattle.lq_model.specs.Step.{is_statement}
 use Rattle.lq_model.specs.declared.statement.Statement.{Statement}
 use Rattle.lq_report.specs.Mark.{Marked}
 use Rattle.lq_seen.specs.View.{any_meaning}
-use Rattle.lq_turns.specs.Effects.{inverses}
-use Rattle.lq_turns.specs.Set.{Set}
+use Rattle.lq_turns.specs.Set.{inverses, Set}
 use Rattle.lq_unrecorded.specs.Part.{counts_in, holder, is_back, number_in}
 use Rattle.lq_mending.specs.Undoes.{IsPart, Passes, Standing, can_undo, made_in, standing_in}
 use Rattle.lq_mending.specs.declared.outcome.RepairFault.{RepairFault}

@@ -11,8 +11,7 @@ use Rattle.lq_hand.specs.Hand.{AreTurns, IsReady, calls_left, hand_place, place_
 use Rattle.lq_hand.specs.declared.hand.Hand.{Hand}
 use Rattle.lq_hand.specs.declared.hand.Phase.TheVariants as phase
 use Rattle.lq_model.specs.Catalogue.{Catalogue}
-use Rattle.lq_model.specs.Statement.{is_statement}
-use Rattle.lq_model.specs.Step.{step}
+use Rattle.lq_model.specs.Step.{is_statement, step}
 use Rattle.lq_model.specs.declared.caller.By.TheVariants.{User}
 use Rattle.lq_model.specs.declared.caller.Room.TheVariants.{Ordinary}
 use Rattle.lq_model.specs.declared.fault.StoreFault.{StoreFault}
@@ -26,16 +25,11 @@ use Rattle.lq_run.specs.Crashing.{LeftAlone}
 use Rattle.lq_run.specs.Does.{AbortFor, Breaks, HasNoRoom}
 use Rattle.lq_run.specs.Ends.{IsBefore}
 use Rattle.lq_run.specs.Moves.{Meets}
-use Rattle.lq_run.specs.NoChanges.{no_changes}
-use Rattle.lq_run.specs.Stands.{Stands, entries_of}
-use Rattle.lq_store.specs.Crashes.{Crashes, CrashesLeave}
-use Rattle.lq_store.specs.Journal.{Entry, end_of, is_full, size_of_all}
-use Rattle.lq_store.specs.State.{State, is_open}
-use Rattle.lq_turns.specs.Contents.{contents_of}
-use Rattle.lq_turns.specs.Deed.{if_accepted}
-use Rattle.lq_turns.specs.Rest.{NoMore, Place, if_goes_on, rest}
+use Rattle.lq_run.specs.Stands.{no_changes, Stands, entries_of}
+use Rattle.lq_store.specs.Journal.{Crashes, CrashesLeave, Entry, end_of, is_full, size_of_all, State, is_open}
+use Rattle.lq_turns.specs.Deed.{contents_of, if_accepted}
+use Rattle.lq_turns.specs.Rest.{NoMore, Place, if_goes_on, rest, both_of}
 use Rattle.lq_turns.specs.Session.{Session, all_called, called}
-use Rattle.lq_turns.specs.Stepped.{both_of}
 use Rattle.lq_turns.specs.declared.call.Call.{Call}
 use Rattle.lq_turns.specs.declared.call.Call.TheVariants.{Abort, Commit}
 use Rattle.lq_turns.specs.declared.stamp.Stamp.{Stamp}
@@ -45,9 +39,8 @@ use Rattle.lq_mending.proofs.Crashed.{alone_crash}
 use Rattle.lq_mending.proofs.Fitting.{one_fits}
 use Rattle.lq_mending.proofs.Making.{refused_ends, refused_why, turns_at}
 use Rattle.lq_mending.proofs.Onward.{before_end, end_before, is_first, on_to_end}
-use Rattle.lq_mending.specs.Comes.{AreMade, At, CrashesAll, Ends, EndsAs, LeftOf, Reached, at_end, first_reason, reason_by}
+use Rattle.lq_mending.specs.Comes.{AreMade, At, CrashesAll, Ends, EndsAs, LeftOf, Reached, at_end, first_reason, reason_by, refused_by, refused_from, refusal_of}
 use Rattle.lq_mending.specs.Mends.{EndsAt, Goes, Rests, WasFull, Waits}
-use Rattle.lq_mending.specs.Refusing.{refused_by, refused_from, refusal_of}
 use Rattle.lq_mending.specs.declared.all.Made.{Made}
 use Rattle.lq_mending.specs.declared.all.Made.TheVariants as made
 

@@ -9,8 +9,7 @@ use Rattle.lq_base.specs.declared.identity.Identity.{Identity}
 use Rattle.lq_base.specs.declared.tracking.Lock.{Lock}
 use Rattle.lq_base.specs.declared.tracking.Tracked.{Tracked}
 use Rattle.lq_beside.proofs.TablesRead.{map_some}
-use Rattle.lq_beside.specs.Fitting.{ReleaseFits}
-use Rattle.lq_beside.specs.Replays.{calls_fit}
+use Rattle.lq_beside.specs.Replays.{ReleaseFits, calls_fit}
 use Rattle.lq_expr.specs.declared.options.Options.{Options}
 use Rattle.lq_kinds.specs.declared.change_set.Changelog.{Changelog}
 use Rattle.lq_model.proofs.Lists.{and_left, and_right, and_true}
@@ -19,11 +18,10 @@ use Rattle.lq_run.proofs.Behind.{none_left}
 use Rattle.lq_run.proofs.Since.{leave_none}
 use Rattle.lq_run.specs.Commands.{HasDatabase, LeavesAs}
 use Rattle.lq_run.specs.Crashes.{LeftInCommand}
-use Rattle.lq_run.specs.Faults.{is_disk_end}
+use Rattle.lq_run.specs.Beside.{is_disk_end}
 use Rattle.lq_run.specs.declared.runner.End.{End}
 use Rattle.lq_run.specs.declared.runner.End.TheVariants as end
-use Rattle.lq_store.specs.Crashes.{Crashes}
-use Rattle.lq_store.specs.State.{State}
+use Rattle.lq_store.specs.Journal.{Crashes, State}
 use Rattle.lq_track.specs.Database.{Database, lock_of, rows_of}
 use Rattle.lq_turns.specs.Script.{closing}
 use Rattle.lq_turns.specs.Session.{session_on}
@@ -31,7 +29,7 @@ use Rattle.lq_turns.specs.declared.call.Call.{Call}
 use Rattle.lq_turns.specs.declared.stop.Refusal.{Refusal}
 use Rattle.lq_unrecorded.specs.Part.{if_part}
 use Rattle.lq_mending.specs.Mends.{TellsEnd, TellsFull}
-use Rattle.lq_mending.specs.Refusing.{back_refused}
+use Rattle.lq_mending.specs.Comes.{back_refused}
 use Rattle.lq_mending.specs.Undoes.{Answers, FullBy, IsPart, LeavesBy, Made, OnIts, Passes, Standing, TellsBy, TellsOf, answer_of, calls_of, first_of, is_of_calls, made_in, refusal, set_marked, standing_in, undo_script, unrecorded}
 use Rattle.lq_mending.specs.declared.outcome.RepairFault.{RepairFault}
 use Rattle.lq_mending.specs.declared.outcome.RepairFault.TheVariants as fault

@@ -3,14 +3,13 @@ use Rattle.std.proofs.Common.{ap, arith, refl, subst, sym, ◌∙◌}
 use Rattle.std.proofs.lemmas.List.{append_assoc, reverse-append}
 use Rattle.std.specs.List.{list_all}
 use Rattle.std.specs.Prelude.{Bool, Err, List, None, Ok, Option, Result, Some, [], length, reverse, suc, true, ℕ, ◌+◌, ◌++◌, ◌∷◌, ◌≡◌}
-use Rattle.laws_repair.specs.Repair.{back_calls, undo_calls}
+use Rattle.laws_repair.specs.Repair.{back_calls, undo_calls, marked_text}
 use Rattle.lq_base.specs.declared.dialect.Dialect.{Dialect}
 use Rattle.lq_base.specs.declared.identity.Identity.{Identity}
 use Rattle.lq_base.specs.declared.reason.Reason.{Reason}
 use Rattle.lq_model.proofs.Lists.{and_left, and_right, and_true}
 use Rattle.lq_model.specs.Catalogue.{Catalogue}
-use Rattle.lq_model.specs.Statement.{is_statement}
-use Rattle.lq_model.specs.Step.{step}
+use Rattle.lq_model.specs.Step.{is_statement, step}
 use Rattle.lq_model.specs.declared.caller.By.TheVariants.{User}
 use Rattle.lq_model.specs.declared.statement.Statement.{Statement}
 use Rattle.lq_reverse.specs.Back.{back}
@@ -19,27 +18,22 @@ use Rattle.lq_run.proofs.Left.{stands_there}
 use Rattle.lq_run.proofs.Since.{leave_then}
 use Rattle.lq_run.specs.Commands.{HasDatabase}
 use Rattle.lq_run.specs.Ends.{CameFrom}
-use Rattle.lq_run.specs.Faults.{is_disk_end}
+use Rattle.lq_run.specs.Beside.{is_disk_end}
 use Rattle.lq_run.specs.declared.runner.End.{End}
 use Rattle.lq_run.specs.declared.runner.End.TheVariants as end
-use Rattle.lq_store.specs.Crashes.{Crashes, CrashesLeave}
-use Rattle.lq_store.specs.State.{State}
+use Rattle.lq_store.specs.Journal.{Crashes, CrashesLeave, State}
 use Rattle.lq_track.specs.Database.{Database}
-use Rattle.lq_turns.specs.Contents.{contents_of}
-use Rattle.lq_turns.specs.Deed.{if_accepted}
-use Rattle.lq_turns.specs.Goes.{Both, committed_if, went, went_by}
+use Rattle.lq_turns.specs.Deed.{contents_of, if_accepted}
+use Rattle.lq_turns.specs.Session.{Both, committed_if, went, went_by, Session, all_called, called, is_own, session_on}
 use Rattle.lq_turns.specs.Script.{closing}
-use Rattle.lq_turns.specs.Session.{Session, all_called, called, is_own, session_on}
-use Rattle.lq_turns.specs.Stepped.{both_of}
+use Rattle.lq_turns.specs.Rest.{both_of}
 use Rattle.lq_turns.specs.Turn.{made}
 use Rattle.lq_turns.specs.declared.call.Call.{Call}
 use Rattle.lq_turns.specs.declared.call.Call.TheVariants.{Commit}
 use Rattle.lq_turns.specs.declared.deed.Deed.TheVariants.{Locks, Users}
 use Rattle.lq_turns.specs.declared.deed.OnLock.TheVariants.{Marked}
-use Rattle.laws_repair.specs.Repair.{marked_text}
-use Rattle.lq_mending.specs.Comes.{AreMade, LeftOf, at_end, first_reason, reason_by}
+use Rattle.lq_mending.specs.Comes.{AreMade, LeftOf, at_end, first_reason, reason_by, back_refused, refused_by, refused_from, refused_in}
 use Rattle.lq_mending.specs.Mends.{CrashesFreeing, CrashesTaking, EndsAt, Frees, Rests, Takes, Tells, TellsEnd}
-use Rattle.lq_mending.specs.Refusing.{back_refused, refused_by, refused_from, refused_in}
 
 some_none : {A : Type 0} {reason : Reason} → (let o : Option Reason = Some reason in o) ≡ None → A
 some_none h = absurd (clash h) where

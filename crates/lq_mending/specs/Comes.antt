@@ -1,34 +1,34 @@
 -- Calls that are made one after another, without turns behind them.
-use Rattle.std.specs.Prelude.{Err, List, None, Ok, Option, Result, Some, [], true, ℕ, ◌++◌, ◌∷◌, ◌≡◌}
+use Rattle.std.specs.Prelude.{Err, List, None, Ok, Option, Result, Some, [], length, reverse, suc, true, ℕ, ◌++◌, ◌∷◌, ◌≡◌}
 use Rattle.lq_base.specs.declared.dialect.Dialect.{Dialect}
 use Rattle.lq_base.specs.declared.reason.Reason.{Reason}
+use Rattle.lq_hand.specs.Hand.{calls_left, place_of}
+use Rattle.lq_hand.specs.declared.hand.Hand.{Hand}
+use Rattle.lq_hand.specs.declared.hand.Phase.TheVariants as phase
+use Rattle.lq_mending.specs.declared.all.Made.{Made}
+use Rattle.lq_mending.specs.declared.all.Made.TheVariants as made
+use Rattle.lq_model.specs.Catalogue.{Catalogue}
+use Rattle.lq_model.specs.Step.{step}
+use Rattle.lq_model.specs.declared.caller.By.TheVariants.{User}
 use Rattle.lq_model.specs.declared.caller.Room.TheVariants.{Ordinary}
 use Rattle.lq_model.specs.declared.fault.StoreFault.{StoreFault}
 use Rattle.lq_model.specs.declared.fault.StoreFault.TheVariants as fault
-use Rattle.lq_store.specs.Crashes.{Crashes, CrashesLeave}
-use Rattle.lq_store.specs.Journal.{Entry}
-use Rattle.lq_store.specs.State.{State}
-use Rattle.lq_turns.specs.Contents.{Contents, contents_of}
-use Rattle.lq_turns.specs.Deed.{contents_after}
-use Rattle.lq_turns.specs.Goes.{went}
-use Rattle.lq_turns.specs.Rest.{NoMore}
-use Rattle.lq_turns.specs.Session.{Session, all_called}
-use Rattle.lq_turns.specs.Stepped.{both_of}
+use Rattle.lq_model.specs.declared.statement.Statement.{Statement}
+use Rattle.lq_reverse.specs.Back.{back}
+use Rattle.lq_run.specs.Ends.{CameFrom}
+use Rattle.lq_run.specs.Moves.{IsAt, Meets, TakesAs}
+use Rattle.lq_run.specs.Stands.{entries_of, no_changes}
+use Rattle.lq_run.specs.declared.hand.Moved.TheVariants as moved
+use Rattle.lq_store.specs.Journal.{Crashes, CrashesLeave, Entry, State}
+use Rattle.lq_turns.specs.Deed.{Contents, contents_after, contents_of}
+use Rattle.lq_turns.specs.Rest.{NoMore, both_of}
+use Rattle.lq_turns.specs.Session.{Session, all_called, went}
 use Rattle.lq_turns.specs.Stops.{Journal}
 use Rattle.lq_turns.specs.Turn.{made as made_by}
 use Rattle.lq_turns.specs.declared.call.Call.{Call}
 use Rattle.lq_turns.specs.declared.call.Call.TheVariants.{Execute}
 use Rattle.lq_turns.specs.declared.stamp.Stamp.{Stamp}
-use Rattle.lq_hand.specs.Hand.{calls_left, place_of}
-use Rattle.lq_hand.specs.declared.hand.Hand.{Hand}
-use Rattle.lq_hand.specs.declared.hand.Phase.TheVariants as phase
-use Rattle.lq_run.specs.Ends.{CameFrom}
-use Rattle.lq_run.specs.Moves.{IsAt, Meets, TakesAs}
-use Rattle.lq_run.specs.NoChanges.{no_changes}
-use Rattle.lq_run.specs.Stands.{entries_of}
-use Rattle.lq_run.specs.declared.hand.Moved.TheVariants as moved
-use Rattle.lq_mending.specs.declared.all.Made.{Made}
-use Rattle.lq_mending.specs.declared.all.Made.TheVariants as made
+use Rattle.lq_turns.specs.declared.stop.Refusal.{Refusal}
 
 -- the session after these calls and those behind them, of which a refusal cuts off the rest
 abbrev pub at_end : Dialect → List Call → List Call → Session → Session
@@ -107,3 +107,27 @@ abbrev pub CrashesAll : Dialect → ℕ → Hand → State → Crashes → Crash
 CrashesAll d number hand x before now =
     (stamp : Stamp) (start : State) (s : Session) (tail : List Call) → At d stamp number hand x start s
     → CrashesLeave start.entries (LeftOf d (at_end d (calls_left hand) tail s)) before now
+
+-- Which of the statements that take others back is refused.
+
+-- the statement of this number is not taken back, and so many stand still
+abbrev pub refusal_of : ℕ → Reason → Refusal
+refusal_of number reason = record { statement = number; kept = number; reason = reason }
+
+abbrev pub refused_by : (Catalogue → Option Refusal) → ℕ → Result (Catalogue × ℕ) Reason → Option Refusal
+refused_by more number (Ok ran) = more ran.0
+refused_by more number (Err reason) = Some (refusal_of number reason)
+
+-- what takes a statement back is refused, or something behind it is; what nothing takes back is passed over
+abbrev pub refused_from : Dialect → (Catalogue → Option Refusal) → ℕ → Option Statement → Catalogue → Option Refusal
+refused_from d more number None c = more c
+refused_from d more number (Some undoing) c = refused_by more number (step User d undoing c)
+
+-- statements that are taken back, each with those before it, as far as that is accepted
+abbrev pub refused_in : Dialect → List Statement → Catalogue → Option Refusal
+refused_in d [] c = None
+refused_in d (s ∷ before) c = refused_from d (refused_in d before) (suc (length before)) (back d s) c
+
+-- the first refusal where these are taken back, the last one first
+abbrev pub back_refused : Dialect → List Statement → Catalogue → Option Refusal
+back_refused d statements c = refused_in d (reverse statements) c

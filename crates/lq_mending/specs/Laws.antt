@@ -1,20 +1,18 @@
 -- What holds of undo-unrecorded.
 use Rattle.std.specs.List.{list_any}
 use Rattle.std.specs.Prelude.{List, Option, Some, false, suc, take, true, ℕ, ◌<◌, ◌==◌, ◌^◌, ◌≡◌}
-use Rattle.laws_repair.specs.LastText.{is_mark_text}
-use Rattle.laws_repair.specs.Mended.{Mark, by_of, marked_set}
-use Rattle.laws_repair.specs.Repair.{IsPartly, IsWhole, repair_calls, standing}
-use Rattle.lq_base.specs.Tracking.{identity_text}
+use Rattle.laws_repair.specs.Repair.{IsPartly, IsWhole, Mark, by_of, is_mark_text, marked_set, repair_calls, standing}
+use Rattle.lq_base.specs.Name.{identity_text}
 use Rattle.lq_expr.specs.declared.options.Options.{Options}
 use Rattle.lq_kinds.specs.declared.any_change.AnyChange.{AnyChange}
 use Rattle.lq_kinds.specs.declared.change_set.Changelog.{Changelog}
+use Rattle.lq_mending.specs.Undoes.{made_in, sets_in, undo_script}
 use Rattle.lq_track.specs.Database.{Database}
-use Rattle.lq_turns.specs.Contents.{Contents}
+use Rattle.lq_turns.specs.Deed.{Contents}
 use Rattle.lq_turns.specs.Session.{left_by}
 use Rattle.lq_turns.specs.Set.{Set}
 use Rattle.lq_turns.specs.Within.{marks_last}
 use Rattle.lq_turns.specs.declared.deed.Deed.{Deed}
-use Rattle.lq_mending.specs.Undoes.{made_in, sets_in, undo_script}
 
 -- Where the mark of a held lock names a changeset, the calls are the repair of laws_repair: its laws hold of them.
 abbrev pub CallsRepair : Type 0

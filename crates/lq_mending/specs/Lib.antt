@@ -1,5 +1,4 @@
-pub mod Comes
 pub mod Laws
-pub mod Mends
-pub mod Refusing
+pub mod Comes
 pub mod Undoes
+pub mod Mends

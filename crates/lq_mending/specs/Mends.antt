@@ -1,13 +1,19 @@
 -- What taking statements back leaves, in words of sessions.
-use Rattle.std.specs.Prelude.{Err, List, None, Ok, Option, Result, Some, [], false, true, ℕ, ◌+◌, ◌++◌, ◌∷◌, ◌≡◌, ◌⊎◌}
+use Rattle.std.specs.Prelude.{Err, List, None, Ok, Option, Result, Some, [], false, true, ℕ, ◌++◌, ◌+◌, ◌∷◌, ◌≡◌, ◌⊎◌}
 use Rattle.lq_base.specs.declared.dialect.Dialect.{Dialect}
 use Rattle.lq_drill.specs.Faults.{has_bar}
+use Rattle.lq_mending.specs.Comes.{AreMade, LeftOf, at_end, refused_from}
 use Rattle.lq_model.specs.Catalogue.{Catalogue}
 use Rattle.lq_model.specs.declared.caller.Room.TheVariants.{Ordinary}
 use Rattle.lq_model.specs.declared.statement.Statement.{Statement}
-use Rattle.lq_store.specs.Crashes.{Crashes, CrashesLeave}
-use Rattle.lq_store.specs.Journal.{end_of, is_full, size_of_all}
-use Rattle.lq_store.specs.State.{State}
+use Rattle.lq_run.specs.Commands.{HasDatabase}
+use Rattle.lq_run.specs.Does.{Breaks}
+use Rattle.lq_run.specs.Ends.{CameFrom, IsBefore}
+use Rattle.lq_run.specs.Left.{RestsIn}
+use Rattle.lq_run.specs.Stands.{Stands, entries_of}
+use Rattle.lq_run.specs.declared.runner.End.{End}
+use Rattle.lq_run.specs.declared.runner.End.TheVariants as end
+use Rattle.lq_store.specs.Journal.{Crashes, CrashesLeave, State, end_of, is_full, size_of_all}
 use Rattle.lq_track.specs.Database.{Database}
 use Rattle.lq_turns.specs.Script.{closing}
 use Rattle.lq_turns.specs.Session.{Session, all_called, called, room_of}
@@ -16,15 +22,6 @@ use Rattle.lq_turns.specs.declared.call.Call.{Call}
 use Rattle.lq_turns.specs.declared.deed.Deed.TheVariants.{Locks}
 use Rattle.lq_turns.specs.declared.deed.OnLock.TheVariants.{Freed}
 use Rattle.lq_turns.specs.declared.stop.Refusal.{Refusal}
-use Rattle.lq_run.specs.Commands.{HasDatabase}
-use Rattle.lq_run.specs.Does.{Breaks}
-use Rattle.lq_run.specs.Ends.{CameFrom, IsBefore}
-use Rattle.lq_run.specs.Left.{RestsIn}
-use Rattle.lq_run.specs.Stands.{Stands, entries_of}
-use Rattle.lq_run.specs.declared.runner.End.{End}
-use Rattle.lq_run.specs.declared.runner.End.TheVariants as end
-use Rattle.lq_mending.specs.Comes.{AreMade, LeftOf, at_end}
-use Rattle.lq_mending.specs.Refusing.{refused_from}
 
 -- the store stands for a session without a transaction, and the lock has its row
 pub record Rests (d : Dialect) (number : ℕ) (start x : State) (s : Session) : Type 0 where

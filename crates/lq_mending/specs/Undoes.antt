@@ -1,9 +1,7 @@
 -- undo-unrecorded: what it is refused for, its calls, and what it answers.
 use Rattle.std.specs.Option.{option_or}
 use Rattle.std.specs.Prelude.{Bool, Err, List, None, Ok, Option, Result, Some, [], false, if◌then◌else◌, is_none, is_some, length, option_and_then, option_map, take, true, ℕ, ◌&&◌, ◌∷◌, ◌≡◌, ◌⊎◌}
-use Rattle.laws_repair.specs.LastText.{is_mark_text}
-use Rattle.laws_repair.specs.Mended.{by_of, marked_set}
-use Rattle.laws_repair.specs.Repair.{repair_calls, standing}
+use Rattle.laws_repair.specs.Repair.{by_of, is_mark_text, marked_set, repair_calls, standing}
 use Rattle.lq_base.specs.Kind.{plain_number}
 use Rattle.lq_base.specs.declared.dialect.Dialect.{Dialect}
 use Rattle.lq_base.specs.declared.identity.Identity.{Identity}
@@ -12,6 +10,11 @@ use Rattle.lq_base.specs.declared.tracking.Tracked.{Tracked}
 use Rattle.lq_expr.specs.declared.options.Options.{Options}
 use Rattle.lq_kinds.specs.declared.any_change.AnyChange.{AnyChange}
 use Rattle.lq_kinds.specs.declared.change_set.Changelog.{Changelog}
+use Rattle.lq_mending.specs.Comes.{back_refused}
+use Rattle.lq_mending.specs.declared.outcome.RepairFault.{RepairFault}
+use Rattle.lq_mending.specs.declared.outcome.RepairFault.TheVariants as fault
+use Rattle.lq_mending.specs.declared.outcome.Repaired.{Repaired}
+use Rattle.lq_mending.specs.declared.part.Part.{Part}
 use Rattle.lq_model.specs.declared.statement.Statement.{Statement}
 use Rattle.lq_report.specs.Mark.{Marked, mark_text}
 use Rattle.lq_run.specs.Commands.{HasDatabase, Leaves}
@@ -20,21 +23,14 @@ use Rattle.lq_run.specs.Left.{RestsIn}
 use Rattle.lq_run.specs.declared.runner.End.{End}
 use Rattle.lq_run.specs.declared.runner.End.TheVariants as end
 use Rattle.lq_seen.specs.View.{any_meaning, view_log}
-use Rattle.lq_store.specs.Crashes.{Crashes}
-use Rattle.lq_store.specs.State.{State}
+use Rattle.lq_store.specs.Journal.{Crashes, State}
 use Rattle.lq_track.specs.Database.{Database}
-use Rattle.lq_turns.specs.Effects.{inverses, statements_of}
 use Rattle.lq_turns.specs.Faults.{faults}
-use Rattle.lq_turns.specs.Set.{Set}
+use Rattle.lq_turns.specs.Set.{Set, inverses, statements_of}
 use Rattle.lq_turns.specs.declared.call.Call.{Call}
 use Rattle.lq_turns.specs.declared.fault.Fault.{Fault}
 use Rattle.lq_turns.specs.declared.stop.Refusal.{Refusal}
 use Rattle.lq_unrecorded.specs.Part.{counts_in, holder, is_back, number_in, part_mark}
-use Rattle.lq_mending.specs.Refusing.{back_refused}
-use Rattle.lq_mending.specs.declared.outcome.Repaired.{Repaired}
-use Rattle.lq_mending.specs.declared.outcome.RepairFault.{RepairFault}
-use Rattle.lq_mending.specs.declared.outcome.RepairFault.TheVariants as fault
-use Rattle.lq_mending.specs.declared.part.Part.{Part}
 
 -- a store with a database
 pub record HasSome (d : Dialect) (x : State) : Type 0 where

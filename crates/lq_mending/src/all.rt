@@ -1,7 +1,7 @@
 ghost use Rattle.std.specs.Prelude.{◌≡◌, ◌≤◌};
 ghost use Rattle.lq_hand.specs.declared.hand.Phase.TheVariants as phase;
 ghost use Rattle.lq_mending.specs.Comes.{Comes, CrashesAll, Ends, made_of};
-ghost use Rattle.lq_outside.specs.Count.{Rose};
+ghost use Rattle.lq_outside.specs.Forms.{Rose};
 ghost use Rattle.lq_mending.specs.declared.all.Made.TheVariants as made;
 
 use lq_base::{Dialect, Reason};

@@ -2,12 +2,12 @@ ghost use Rattle.std.specs.List.{list_all};
 ghost use Rattle.std.specs.Prelude.{◌≡◌, ◌≤◌, true};
 ghost use Rattle.laws_repair.specs.Repair.{repair_calls};
 ghost use Rattle.lq_mending.specs.Mends.{CrashesFreeing, Frees, MayRepair, OnLocked, OnMarked, SomeRests, TellsEnd, TellsFull};
-ghost use Rattle.lq_mending.specs.Refusing.{back_refused};
-ghost use Rattle.lq_model.specs.Statement.{is_statement};
-ghost use Rattle.lq_outside.specs.Count.{Rose};
+ghost use Rattle.lq_mending.specs.Comes.{back_refused};
+ghost use Rattle.lq_model.specs.Step.{is_statement};
+ghost use Rattle.lq_outside.specs.Forms.{Rose};
 ghost use Rattle.lq_run.specs.Commands.{LeavesAs};
 ghost use Rattle.lq_run.specs.Crashes.{CrashesLeave, LeftBehind, LeftInCommand};
-ghost use Rattle.lq_run.specs.Faults.{is_disk_end};
+ghost use Rattle.lq_run.specs.Beside.{is_disk_end};
 ghost use Rattle.lq_run.specs.Steps.{end_of};
 
 use crate::taking_back::take_back;

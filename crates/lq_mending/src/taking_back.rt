@@ -1,9 +1,9 @@
 ghost use Rattle.std.specs.Prelude.{◌≡◌, ◌≤◌, Err, true};
 ghost use Rattle.laws_repair.specs.Repair.{back_calls};
 ghost use Rattle.lq_mending.specs.Mends.{CrashesTaking, SomeRests, Takes, Tells};
-ghost use Rattle.lq_mending.specs.Refusing.{refusal_of};
-ghost use Rattle.lq_model.specs.Statement.{is_statement};
-ghost use Rattle.lq_outside.specs.Count.{Rose};
+ghost use Rattle.lq_mending.specs.Comes.{refusal_of};
+ghost use Rattle.lq_model.specs.Step.{is_statement};
+ghost use Rattle.lq_outside.specs.Forms.{Rose};
 ghost use Rattle.lq_reverse.specs.Back.{back};
 ghost use Rattle.lq_run.specs.declared.runner.End.TheVariants.{Disk};
 

@@ -1,13 +1,13 @@
 ghost use Rattle.std.specs.List.{list_all};
 ghost use Rattle.std.specs.Prelude.{◌≡◌, ◌≤◌, Err, IfErr, IfOk, None, false, is_some, length, take, true};
 ghost use Rattle.laws_repair.specs.Repair.{repair_calls};
-ghost use Rattle.lq_kinds.specs.Dialects.{AreFor};
+ghost use Rattle.lq_kinds.specs.AnyChange.{AreFor};
 ghost use Rattle.lq_mending.specs.Mends.{MayRepair, OnLocked, OnMarked};
-ghost use Rattle.lq_mending.specs.Refusing.{back_refused};
+ghost use Rattle.lq_mending.specs.Comes.{back_refused};
 ghost use Rattle.lq_mending.specs.Undoes.{Answers, HasSome, IsPart, Made, OnIts, Passes, TellsBy, TellsOf, answer_of, is_of_calls, refusal, undo_script, unrecorded};
 ghost use Rattle.lq_mending.specs.declared.outcome.RepairFault.TheVariants.{Disk};
-ghost use Rattle.lq_model.specs.Statement.{is_statement};
-ghost use Rattle.lq_outside.specs.Count.{Rose};
+ghost use Rattle.lq_model.specs.Step.{is_statement};
+ghost use Rattle.lq_outside.specs.Forms.{Rose};
 
 use crate::outcome::{RepairFault, Repaired};
 use crate::part::{Part, part_of};

@@ -7,13 +7,11 @@ use Rattle.lq_base.specs.Name.{is_named}
 use Rattle.lq_base.specs.declared.dialect.Dialect.{Dialect}
 use Rattle.lq_base.specs.declared.dialect.Dialect.TheVariants.{Mysql, Postgresql}
 use Rattle.lq_base.specs.declared.name.Name.{Name}
-use Rattle.lq_model.specs.Catalogue.{Catalogue, View, no_table, table_of}
+use Rattle.lq_model.specs.Catalogue.{Catalogue, View, no_table, table_of, same_names, target_lists}
 use Rattle.lq_model.specs.NameSpaces.{is_taken, object_names}
-use Rattle.lq_model.specs.Names.{same_names}
-use Rattle.lq_model.specs.Needs.{is_viewed, targets_table}
-use Rattle.lq_model.specs.ResultTests.{misses_target}
+use Rattle.lq_model.specs.Tables.{is_viewed, targets_table}
+use Rattle.lq_model.specs.Plan.{misses_target}
 use Rattle.lq_model.specs.Sound.{IsSound, is_view}
-use Rattle.lq_model.specs.TableNames.{target_lists}
 use Rattle.lq_model.specs.declared.constraint.ForeignKey.{ForeignKey}
 use Rattle.lq_model.proofs.Lists.{and_left, any-append, any_less, any_none, or_left, same_name, true_false}
 use Rattle.lq_model.proofs.Maps.{found, none_if}

@@ -9,16 +9,12 @@ use Rattle.lq_base.specs.declared.dialect.Dialect.{Dialect}
 use Rattle.lq_base.specs.declared.dialect.Dialect.TheVariants.{Mysql, Postgresql}
 use Rattle.lq_base.specs.declared.name.Name.{Name}
 use Rattle.lq_base.specs.declared.value.Value.{Value}
-use Rattle.lq_model.specs.Catalogue.{Catalogue, Table, the_table}
-use Rattle.lq_model.specs.Columns.{add_column, with_column}
-use Rattle.lq_model.specs.Kinds.{is_number, kind_of}
-use Rattle.lq_model.specs.Literals.{column_of, default_value}
+use Rattle.lq_model.specs.Catalogue.{Catalogue, Table, the_table, is_empty, is_in, repeats, row_fits, column_lists, column_names, has_column, key_list, target_lists}
+use Rattle.lq_model.specs.Tables.{add_column, with_column}
+use Rattle.lq_model.specs.Kinds.{is_number, kind_of, column_of, default_value}
 use Rattle.lq_model.specs.NameSpaces.{AreApartWithin}
-use Rattle.lq_model.specs.Names.{is_empty, is_in, repeats}
-use Rattle.lq_model.specs.Row.{row_fits}
 use Rattle.lq_model.specs.Sound.{IsSound, IsSoundTable, are_columns, default_fits, is_key_of, is_not_null}
 use Rattle.lq_model.specs.Step.{step}
-use Rattle.lq_model.specs.TableNames.{column_lists, column_names, has_column, key_list, target_lists}
 use Rattle.lq_model.specs.declared.caller.By.{By}
 use Rattle.lq_model.specs.declared.column.Column.{Column}
 use Rattle.lq_model.specs.declared.column.ColumnDef.{ColumnDef}

@@ -8,17 +8,12 @@ use Rattle.lq_base.specs.declared.dialect.Dialect.{Dialect}
 use Rattle.lq_base.specs.declared.name.Name.{Name}
 use Rattle.lq_base.specs.declared.value.Value.{Value}
 use Rattle.lq_base.specs.declared.value.Value.TheVariants as value
-use Rattle.lq_model.specs.Catalogue.{Catalogue, Table, table_of, the_table, with_table}
-use Rattle.lq_model.specs.Columns.{add_column, columns_without, drop_column, is_only, row_without, without_column}
-use Rattle.lq_model.specs.Literals.{column_of, default_value}
-use Rattle.lq_model.specs.Names.{is_empty, is_in}
-use Rattle.lq_model.specs.Needs.{aims_at, is_bound}
-use Rattle.lq_model.specs.Reserved.{is_reserved}
-use Rattle.lq_model.specs.Row.{row_fits}
+use Rattle.lq_model.specs.Catalogue.{Catalogue, Table, table_of, the_table, with_table, is_empty, is_in, row_fits, has_column, IsWidened, rows_with, widened}
+use Rattle.lq_model.specs.Tables.{add_column, columns_without, drop_column, is_only, row_without, without_column, aims_at, is_bound}
+use Rattle.lq_model.specs.Kinds.{column_of, default_value}
+use Rattle.lq_model.specs.NameSpaces.{is_reserved}
 use Rattle.lq_model.specs.Sound.{IsSound, IsSoundTable}
 use Rattle.lq_model.specs.Step.{step}
-use Rattle.lq_model.specs.TableNames.{has_column}
-use Rattle.lq_model.specs.Widened.{IsWidened, rows_with, widened}
 use Rattle.lq_model.specs.declared.caller.By.{By}
 use Rattle.lq_model.specs.declared.column.Column.{Column}
 use Rattle.lq_model.specs.declared.column.ColumnDef.{ColumnDef}

@@ -11,18 +11,13 @@ use Rattle.lq_base.specs.declared.dialect.Dialect.TheVariants.{Mysql, Postgresql
 use Rattle.lq_base.specs.declared.name.Name.{Name}
 use Rattle.lq_base.specs.declared.value.Value.{Value}
 use Rattle.lq_base.specs.declared.value.Value.TheVariants as value
-use Rattle.lq_model.specs.AddConstraint.{add_foreign_key, add_primary_key, add_unique, create_index, with_foreign, with_index, with_key, with_unique}
-use Rattle.lq_model.specs.Catalogue.{Catalogue, Table, table_of, the_table, with_table}
-use Rattle.lq_model.specs.CreateTable.{key_column}
+use Rattle.lq_model.specs.Constraints.{add_foreign_key, add_primary_key, add_unique, create_index, with_foreign, with_index, with_key, with_unique}
+use Rattle.lq_model.specs.Catalogue.{Catalogue, Table, table_of, the_table, with_table, is_empty, is_in, repeats, times, row_fits, column_missing, constraint_names, foreign_names, has_column, index_names, inner_names, key_list, placed, target_lists}
+use Rattle.lq_model.specs.Tables.{key_column}
 use Rattle.lq_model.specs.Kinds.{is_number, kind_of, kinds_differ}
-use Rattle.lq_model.specs.NameSpaces.{AreApart, AreApartWithin, all_foreign_names, foreign_taken, index_taken, key_taken, shared_names, unique_taken}
-use Rattle.lq_model.specs.Names.{is_empty, is_in, repeats, times}
-use Rattle.lq_model.specs.Reserved.{takes_lock_key}
-use Rattle.lq_model.specs.Row.{row_fits}
+use Rattle.lq_model.specs.NameSpaces.{AreApart, AreApartWithin, all_foreign_names, foreign_taken, index_taken, key_taken, shared_names, unique_taken, takes_lock_key}
 use Rattle.lq_model.specs.Sound.{IsSound, IsSoundTable, are_columns, is_key_name, is_key_of, is_numbered_well}
-use Rattle.lq_model.specs.Statement.{is_foreign, is_index, is_key, is_name_list, is_unique}
-use Rattle.lq_model.specs.Step.{step}
-use Rattle.lq_model.specs.TableNames.{column_missing, constraint_names, foreign_names, has_column, index_names, inner_names, key_list, placed, target_lists}
+use Rattle.lq_model.specs.Step.{is_foreign, is_index, is_key, is_name_list, is_unique, step}
 use Rattle.lq_model.specs.declared.caller.By.{By}
 use Rattle.lq_model.specs.declared.column.Column.{Column}
 use Rattle.lq_model.specs.declared.constraint.ForeignKey.{ForeignKey}

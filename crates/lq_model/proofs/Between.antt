@@ -10,17 +10,13 @@ use Rattle.lq_base.specs.declared.literal.Literal.{Literal}
 use Rattle.lq_base.specs.declared.name.Name.{Name}
 use Rattle.lq_base.specs.declared.value.Value.{Value}
 use Rattle.lq_base.specs.declared.value.Value.TheVariants as value
-use Rattle.lq_model.specs.Catalogue.{Catalogue, the_table, with_table}
-use Rattle.lq_model.specs.ChangeColumn.{changed_at, made_nullable, modified, modify, set_not_null, with_changed}
-use Rattle.lq_model.specs.Kinds.{kind_in}
-use Rattle.lq_model.specs.Literals.{value_in}
-use Rattle.lq_model.specs.Names.{is_in}
-use Rattle.lq_model.specs.Row.{row_fits}
+use Rattle.lq_model.specs.Catalogue.{Catalogue, the_table, with_table, is_in, row_fits, IsWidened, rows_with, widened}
+use Rattle.lq_model.specs.Tables.{changed_at, made_nullable, modified, modify, set_not_null, with_changed}
+use Rattle.lq_model.specs.Kinds.{kind_in, value_in}
 use Rattle.lq_model.specs.Sound.{IsSound}
 use Rattle.lq_model.specs.Step.{step}
 use Rattle.lq_model.specs.Truth.{takes}
-use Rattle.lq_model.specs.Update.{edited, set_in, update}
-use Rattle.lq_model.specs.Widened.{IsWidened, rows_with, widened}
+use Rattle.lq_model.specs.Rows.{edited, set_in, update}
 use Rattle.lq_model.specs.declared.caller.By.{By}
 use Rattle.lq_model.specs.declared.column.Column.{Column}
 use Rattle.lq_model.specs.declared.statement.Statement.TheVariants.{Modify, SetNotNull, Update}

@@ -2,7 +2,7 @@
 use Rattle.std.proofs.Common.{ℤ, pos, negsuc, true, false, ◌≡◌, ℕ, suc, ◌+◌, ◌<◌, List, [], ◌∷◌, ◌++◌, map, length, refl, sym, ap, ◌∙◌, arith}
 use Rattle.std.specs.Int.Digits.{AllBelowBase, number_from_digits}
 use Rattle.std.proofs.lemmas.List.{append_assoc}
-use Rattle.lq_model.specs.Canon.{decimal_digits, numeral, signed_numeral, atom, canonical, canonical_values, canonical_pairs, canonical_change, canonical_each, canonical_changes, CanonicalChange, CanonicalValue, CanonicalValues, CanonicalPairs, text, number, truth, list, map_of, no_values, value, no_pairs, pair}
+use Rattle.lq_model.specs.Changes.{decimal_digits, numeral, signed_numeral, atom, canonical, canonical_values, canonical_pairs, canonical_change, canonical_each, canonical_changes, CanonicalChange, CanonicalValue, CanonicalValues, CanonicalPairs, text, number, truth, list, map_of, no_values, value, no_pairs, pair}
 use Rattle.lq_model.proofs.Numerals.{number_of_digits, digits_below_ten}
 
 -- digits go as far as they can, and the colon is none

@@ -10,17 +10,12 @@ use Rattle.lq_base.specs.declared.dialect.Dialect.TheVariants.{Mysql, Postgresql
 use Rattle.lq_base.specs.declared.literal.Literal.{Literal}
 use Rattle.lq_base.specs.declared.name.Name.{Name}
 use Rattle.lq_base.specs.declared.value.Value.{Value}
-use Rattle.lq_model.specs.Catalogue.{Catalogue, Table, table_of, the_table, with_table}
-use Rattle.lq_model.specs.ChangeColumn.{changed_at, drop_default, drop_not_null, made_nullable, set_default, set_not_null, with_changed, with_default}
-use Rattle.lq_model.specs.Kinds.{is_number, kind_in, kind_of}
-use Rattle.lq_model.specs.Literals.{value_in}
+use Rattle.lq_model.specs.Catalogue.{Catalogue, Table, table_of, the_table, with_table, is_empty, is_in, repeats, row_fits, column_lists, constraint_names, key_list}
+use Rattle.lq_model.specs.Tables.{changed_at, drop_default, drop_not_null, made_nullable, set_default, set_not_null, with_changed, with_default, is_in_key}
+use Rattle.lq_model.specs.Kinds.{is_number, kind_in, kind_of, value_in}
 use Rattle.lq_model.specs.NameSpaces.{AreApartWithin}
-use Rattle.lq_model.specs.Names.{is_empty, is_in, repeats}
-use Rattle.lq_model.specs.Needs.{is_in_key}
-use Rattle.lq_model.specs.Row.{row_fits}
 use Rattle.lq_model.specs.Sound.{IsSound, IsSoundTable, are_columns, default_fits, is_key_of, is_not_null, is_numbered_well}
 use Rattle.lq_model.specs.Step.{step}
-use Rattle.lq_model.specs.TableNames.{column_lists, constraint_names, key_list}
 use Rattle.lq_model.specs.declared.caller.By.{By}
 use Rattle.lq_model.specs.declared.column.Column.{Column}
 use Rattle.lq_model.specs.declared.constraint.Key.{Key}

@@ -6,15 +6,13 @@ use Rattle.std.specs.Prelude.{Bool, List, None, Option, Some, [], cond, false, m
 use Rattle.lq_base.specs.Name.{is_named}
 use Rattle.lq_base.specs.declared.dialect.Dialect.{Dialect}
 use Rattle.lq_base.specs.declared.name.Name.{Name}
-use Rattle.lq_model.specs.Catalogue.{Catalogue, Table, no_table, table_of, the_table, with_table}
-use Rattle.lq_model.specs.Look.{column_at}
-use Rattle.lq_model.specs.Names.{is_in, repeats}
+use Rattle.lq_model.specs.Catalogue.{Catalogue, Table, no_table, table_of, the_table, with_table, column_at, is_in, repeats}
 use Rattle.lq_model.specs.Sound.{IsSound}
 use Rattle.lq_model.specs.TakesBack.{is_each}
 use Rattle.lq_model.specs.declared.column.Column.{Column}
 use Rattle.lq_model.proofs.Kept.{the_table-with_table, with_table-with_table}
 use Rattle.lq_model.proofs.Lists.{or_left, or_right, same_name}
-use Rattle.lq_base.specs.Options.{if_there}
+use Rattle.lq_base.specs.Number.{if_there}
 
 none_named : (n : Name) (p : Column → Bool) (cs : List Column) → is_in n (map (λ x. x.name) cs) ≡ false → list_all (λ x. not (is_named n x.name) || p x) cs ≡ true
 none_named n p [] out = refl

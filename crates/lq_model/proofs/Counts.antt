@@ -8,7 +8,7 @@ use Rattle.std.specs.Prelude.{Bool, List, None, Some, [], cond, false, map, refl
 use Rattle.std.specs.declared.cmp.Ordering.TheVariants.{Equal, Greater, Less}
 use Rattle.lq_base.specs.Name.{is_named, name_cmp}
 use Rattle.lq_base.specs.declared.name.Name.{Name}
-use Rattle.lq_model.specs.Names.{times}
+use Rattle.lq_model.specs.Catalogue.{times}
 use Rattle.lq_model.proofs.Lists.{same_name}
 use Rattle.lq_model.proofs.Maps.{not_some, some_same}
 use Rattle.lq_model.proofs.Times.{times-append}

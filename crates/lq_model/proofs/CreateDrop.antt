@@ -10,10 +10,8 @@ use Rattle.lq_base.specs.Name.{is_named, name_cmp}
 use Rattle.lq_base.specs.declared.dialect.Dialect.{Dialect}
 use Rattle.lq_base.specs.declared.name.Name.{Name}
 use Rattle.lq_model.specs.Catalogue.{Catalogue, Table, table_of, with_new}
-use Rattle.lq_model.specs.CreateTable.{create_table, new_table}
-use Rattle.lq_model.specs.DropTable.{drop_table}
-use Rattle.lq_model.specs.Needs.{targets_table}
-use Rattle.lq_model.specs.Reserved.{is_reserved, is_tracking}
+use Rattle.lq_model.specs.Tables.{create_table, new_table, drop_table, targets_table}
+use Rattle.lq_model.specs.NameSpaces.{is_reserved, is_tracking}
 use Rattle.lq_model.specs.Sound.{IsSound}
 use Rattle.lq_model.specs.Step.{step}
 use Rattle.lq_model.specs.declared.caller.By.{By}

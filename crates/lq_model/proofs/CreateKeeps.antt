@@ -14,19 +14,13 @@ use Rattle.lq_base.specs.declared.literal.Literal.{Literal}
 use Rattle.lq_base.specs.declared.name.Name.{Name}
 use Rattle.lq_base.specs.declared.value.Value.{Value}
 use Rattle.lq_base.specs.declared.value.Value.TheVariants as value
-use Rattle.lq_model.specs.Catalogue.{Catalogue, Sequence, Table, View, no_table, table_of, with_new}
-use Rattle.lq_model.specs.CreateTable.{create_table, depends_in, key_column, lacks_own, lists_twice, new_table, numbers_wrongly, repeats_number}
-use Rattle.lq_model.specs.Kinds.{is_number, kinds_at, kinds_differ, same_kinds}
-use Rattle.lq_model.specs.Literals.{column_of, is_wide, is_wrong, literal_of, value_in}
-use Rattle.lq_model.specs.NameSpaces.{AreApart, AreApartWithin, all_foreign_names, are_clashing, is_taken, names_inside, object_names, shared_names}
-use Rattle.lq_model.specs.Names.{is_empty, is_in, repeats, times}
-use Rattle.lq_model.specs.Needs.{targets_table}
+use Rattle.lq_model.specs.Catalogue.{Catalogue, Sequence, Table, View, no_table, table_of, with_new, is_empty, is_in, repeats, times, column_lists, column_missing, column_names, constraint_names, foreign_names, has_column, index_names, inner_names, key_list, placed, target_lists}
+use Rattle.lq_model.specs.Tables.{create_table, depends_in, key_column, lacks_own, lists_twice, new_table, numbers_wrongly, repeats_number, targets_table}
+use Rattle.lq_model.specs.Kinds.{is_number, kinds_at, kinds_differ, same_kinds, column_of, is_wide, is_wrong, literal_of, value_in}
+use Rattle.lq_model.specs.NameSpaces.{AreApart, AreApartWithin, all_foreign_names, are_clashing, is_taken, names_inside, object_names, shared_names, takes_lock_key}
 use Rattle.lq_model.specs.Plan.{Plan}
-use Rattle.lq_model.specs.Reserved.{takes_lock_key}
 use Rattle.lq_model.specs.Sound.{IsSound, IsSoundTable, are_columns, default_fits, is_key_name, is_key_of, is_not_null, is_view}
-use Rattle.lq_model.specs.Statement.{is_column_def, is_foreign, is_key, is_name_list, is_pg, is_statement, is_unique}
-use Rattle.lq_model.specs.Step.{step}
-use Rattle.lq_model.specs.TableNames.{column_lists, column_missing, column_names, constraint_names, foreign_names, has_column, index_names, inner_names, key_list, placed, target_lists}
+use Rattle.lq_model.specs.Step.{is_column_def, is_foreign, is_key, is_name_list, is_pg, is_statement, is_unique, step}
 use Rattle.lq_model.specs.declared.caller.By.{By}
 use Rattle.lq_model.specs.declared.column.Column.{Column}
 use Rattle.lq_model.specs.declared.column.ColumnDef.{ColumnDef}

@@ -7,11 +7,8 @@ use Rattle.lq_base.specs.declared.dialect.Dialect.{Dialect}
 use Rattle.lq_base.specs.declared.name.Name.{Name}
 use Rattle.lq_base.specs.declared.reason.Reason.{Reason}
 use Rattle.lq_base.specs.declared.reason.Reason.TheVariants as reason
-use Rattle.lq_model.specs.Catalogue.{Catalogue, no_table, table_of, the_table}
-use Rattle.lq_model.specs.Names.{is_in}
-use Rattle.lq_model.specs.Plan.{Plan, against, decide, lacks_parents, leaves_children}
-use Rattle.lq_model.specs.Reasons.{NoneHolds, unless}
-use Rattle.lq_model.specs.ResultTests.{has_null, has_orphan, has_orphans, has_twins, is_loose, is_overfull}
+use Rattle.lq_model.specs.Catalogue.{Catalogue, no_table, table_of, the_table, is_in}
+use Rattle.lq_model.specs.Plan.{Plan, against, decide, lacks_parents, leaves_children, NoneHolds, unless, has_null, has_orphan, has_orphans, has_twins, is_loose, is_overfull}
 use Rattle.lq_model.specs.Sound.{IsSound}
 use Rattle.lq_model.proofs.Lists.{and_no_right, any_less, or_false, or_left, or_right, true_false}
 

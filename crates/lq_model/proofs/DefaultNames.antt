@@ -4,12 +4,12 @@ use Rattle.std.proofs.lemmas.List.{append_assoc}
 use Rattle.std.specs.List.{flat_map, list_all, list_any}
 use Rattle.std.specs.Str.{is_utf8}
 use Rattle.std.specs.Prelude.{Bool, List, [], codes, cond, false, length, nat_le, nat_lt, not, refl, suc, take, true, zero, ℕ, ◌&&◌, ◌++◌, ◌==◌, ◌||◌, ◌≤◌, ◌∷◌, ◌≡◌}
-use Rattle.lq_base.specs.Character.{has_control, is_control}
+use Rattle.lq_base.specs.Number.{has_control, is_control}
 use Rattle.lq_base.specs.Name.{is_name, is_name_key, text_of}
 use Rattle.lq_base.specs.declared.dialect.Dialect.{Dialect}
 use Rattle.lq_base.specs.declared.dialect.Dialect.TheVariants.{Mysql, Postgresql}
 use Rattle.lq_base.specs.declared.name.Name.{Name}
-use Rattle.lq_model.specs.DefaultName.{DefaultNamesAreNames, cut, default_name, foreign_name, index_name, is_prefix, key_name, unique_name}
+use Rattle.lq_model.specs.Sound.{DefaultNamesAreNames, cut, default_name, foreign_name, index_name, is_prefix, key_name, unique_name}
 use Rattle.lq_model.proofs.Lists.{and_left, and_right, true_false}
 use Rattle.lq_model.proofs.PlainText.{is_plain, plain_utf8}
 use Rattle.lq_base.proofs.NameLemmas.{is_name_key_name, names_tell_keys}

@@ -9,16 +9,12 @@ use Rattle.lq_base.specs.declared.dialect.Dialect.{Dialect}
 use Rattle.lq_base.specs.declared.dialect.Dialect.TheVariants.{Mysql, Postgresql}
 use Rattle.lq_base.specs.declared.name.Name.{Name}
 use Rattle.lq_base.specs.declared.value.Value.{Value}
-use Rattle.lq_model.specs.Catalogue.{Catalogue, Table, the_table}
-use Rattle.lq_model.specs.Columns.{columns_without, drop_column, is_only, row_without, without_column}
+use Rattle.lq_model.specs.Catalogue.{Catalogue, Table, the_table, is_empty, is_in, repeats, row_fits, column_lists, column_names, constraint_names, key_list}
+use Rattle.lq_model.specs.Tables.{columns_without, drop_column, is_only, row_without, without_column, is_aimed, is_bound, is_in_foreign, is_shown}
 use Rattle.lq_model.specs.Kinds.{kind_of}
 use Rattle.lq_model.specs.NameSpaces.{AreApartWithin}
-use Rattle.lq_model.specs.Names.{is_empty, is_in, repeats}
-use Rattle.lq_model.specs.Needs.{is_aimed, is_bound, is_in_foreign, is_shown}
-use Rattle.lq_model.specs.Row.{row_fits}
 use Rattle.lq_model.specs.Sound.{IsSound, are_columns, default_fits, is_not_null, is_numbered_well}
 use Rattle.lq_model.specs.Step.{step}
-use Rattle.lq_model.specs.TableNames.{column_lists, column_names, constraint_names, key_list}
 use Rattle.lq_model.specs.declared.caller.By.{By}
 use Rattle.lq_model.specs.declared.column.Column.{Column}
 use Rattle.lq_model.specs.declared.index.Index.{Index}

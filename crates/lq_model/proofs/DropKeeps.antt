@@ -7,16 +7,13 @@ use Rattle.lq_base.specs.Name.{beside, is_named}
 use Rattle.lq_base.specs.declared.dialect.Dialect.{Dialect}
 use Rattle.lq_base.specs.declared.dialect.Dialect.TheVariants.{Mysql, Postgresql}
 use Rattle.lq_base.specs.declared.name.Name.{Name}
-use Rattle.lq_model.specs.Catalogue.{Catalogue, Table, table_of, the_table, with_table}
-use Rattle.lq_model.specs.DropConstraint.{drop_constraint, drop_foreign_key, drop_index, drop_primary_key, drop_unique, uniques_without, without_constraint, without_foreign, without_index, without_index_in, without_its_key, without_key, without_unique}
+use Rattle.lq_model.specs.Catalogue.{Catalogue, Table, table_of, the_table, with_table, is_empty, is_in, repeats, times, row_fits, column_lists, inner_names, key_list}
+use Rattle.lq_model.specs.Constraints.{drop_constraint, drop_foreign_key, drop_index, drop_primary_key, drop_unique, uniques_without, without_constraint, without_foreign, without_index, without_index_in, without_its_key, without_key, without_unique}
 use Rattle.lq_model.specs.Kinds.{is_number, kind_of, kinds_differ}
 use Rattle.lq_model.specs.NameSpaces.{AreApartWithin}
-use Rattle.lq_model.specs.Names.{is_empty, is_in, repeats, times}
-use Rattle.lq_model.specs.Needs.{has_numbered}
-use Rattle.lq_model.specs.Row.{row_fits}
+use Rattle.lq_model.specs.Tables.{has_numbered}
 use Rattle.lq_model.specs.Sound.{IsSound, IsSoundTable, are_columns, default_fits, is_key_name, is_key_of, is_not_null, is_numbered_well}
 use Rattle.lq_model.specs.Step.{step}
-use Rattle.lq_model.specs.TableNames.{column_lists, inner_names, key_list}
 use Rattle.lq_model.specs.declared.caller.By.{By}
 use Rattle.lq_model.specs.declared.column.Column.{Column}
 use Rattle.lq_model.specs.declared.constraint.ForeignKey.{ForeignKey}

@@ -9,15 +9,12 @@ use Rattle.lq_base.specs.Name.{is_named, name_cmp}
 use Rattle.lq_base.specs.declared.dialect.Dialect.{Dialect}
 use Rattle.lq_base.specs.declared.dialect.Dialect.TheVariants.{Mysql, Postgresql}
 use Rattle.lq_base.specs.declared.name.Name.{Name}
-use Rattle.lq_model.specs.Catalogue.{Catalogue, Sequence, Table, View, no_table, table_of, without_table}
-use Rattle.lq_model.specs.DropTable.{drop_table}
+use Rattle.lq_model.specs.Catalogue.{Catalogue, Sequence, Table, View, no_table, table_of, without_table, times, foreign_names}
+use Rattle.lq_model.specs.Tables.{drop_table, is_targeted, is_viewed, targets_table}
 use Rattle.lq_model.specs.Kinds.{kinds_at, kinds_differ, same_kinds}
 use Rattle.lq_model.specs.NameSpaces.{AreApart, names_inside, object_names}
-use Rattle.lq_model.specs.Names.{times}
-use Rattle.lq_model.specs.Needs.{is_targeted, is_viewed, targets_table}
 use Rattle.lq_model.specs.Sound.{IsSound, IsSoundTable, is_view}
 use Rattle.lq_model.specs.Step.{step}
-use Rattle.lq_model.specs.TableNames.{foreign_names}
 use Rattle.lq_model.specs.declared.caller.By.{By}
 use Rattle.lq_model.specs.declared.constraint.ForeignKey.{ForeignKey}
 use Rattle.lq_model.specs.declared.statement.Statement.TheVariants.{DropTable}

@@ -6,14 +6,13 @@ use Rattle.lq_base.specs.declared.reason.Reason.{Reason}
 use Rattle.lq_model.specs.Catalogue.{Catalogue}
 use Rattle.lq_model.specs.Changes.{HaveEffect, TakeBack}
 use Rattle.lq_model.specs.Sound.{IsSound}
-use Rattle.lq_model.specs.Step.{plan, run, step}
+use Rattle.lq_model.specs.Step.{plan, run, step, is_statement}
 use Rattle.lq_model.specs.TakesBack.{TakesBack, TakesBackWhere}
 use Rattle.lq_model.specs.declared.caller.By.TheVariants.{User}
 use Rattle.lq_model.specs.declared.statement.Statement.{Statement}
 use Rattle.lq_model.proofs.Decide.{accepted}
 use Rattle.lq_model.proofs.KeepsSound.{statement_keeps}
 use Rattle.lq_model.proofs.Lists.{and_left, and_right}
-use Rattle.lq_model.specs.Statement.{is_statement}
 use Rattle.std.specs.List.{list_all}
 use Rattle.lq_model.specs.Effect.{Becomes, GoesBack, effect_of, unless_refused}
 

@@ -5,8 +5,7 @@ use Rattle.lq_base.specs.declared.dialect.Dialect.TheVariants.{Mysql, Postgresql
 use Rattle.lq_base.specs.declared.kind.Kind.TheVariants as kind
 use Rattle.lq_base.specs.declared.literal.Literal.TheVariants as literal
 use Rattle.lq_base.specs.declared.reason.Reason.TheVariants.{Depends, Duplicate, Exists, HasChildren, Missing, NoParent, NullFound, Reserved, TooWide, WrongKind}
-use Rattle.lq_model.specs.Plan.{decide}
-use Rattle.lq_model.specs.ResultTests.{is_full}
+use Rattle.lq_model.specs.Plan.{decide, is_full}
 use Rattle.lq_model.specs.Step.{step}
 use Rattle.lq_model.specs.declared.caller.By.TheVariants.{Program, User}
 use Rattle.lq_model.specs.declared.statement.Statement.TheVariants.{AddForeignKey, AddUnique, CreateTable, Delete, DropTable, Insert, Update}

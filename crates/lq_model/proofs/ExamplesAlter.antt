@@ -8,7 +8,7 @@ use Rattle.lq_base.specs.declared.name.Name.{Name}
 use Rattle.lq_base.specs.declared.reason.Reason.TheVariants.{Depends, Exists, Missing, NoParent, NullFound, Reserved, TooWide, WrongKind}
 use Rattle.lq_base.specs.declared.value.Value.TheVariants as value
 use Rattle.lq_model.specs.Plan.{decide}
-use Rattle.lq_model.specs.Query.{answer}
+use Rattle.lq_model.specs.Views.{answer}
 use Rattle.lq_model.specs.declared.caller.By.TheVariants.{Program, User}
 use Rattle.lq_model.specs.declared.query.Query.{Query}
 use Rattle.lq_model.specs.declared.query.Wanted.{Wanted}

@@ -9,10 +9,9 @@ use Rattle.lq_base.specs.declared.name.Name.{Name}
 use Rattle.lq_base.specs.declared.reason.Reason.TheVariants.{Depends, Duplicate, Exists, Missing, NullFound, Reserved, TooManyRows, TooWide, WrongKind}
 use Rattle.lq_base.specs.declared.value.Value.{Value}
 use Rattle.lq_base.specs.declared.value.Value.TheVariants as value
-use Rattle.lq_model.specs.AddConstraint.{add_primary_key}
+use Rattle.lq_model.specs.Constraints.{add_primary_key}
 use Rattle.lq_model.specs.Catalogue.{Catalogue, Table}
-use Rattle.lq_model.specs.Plan.{decide}
-use Rattle.lq_model.specs.ResultTests.{is_loose}
+use Rattle.lq_model.specs.Plan.{decide, is_loose}
 use Rattle.lq_model.specs.declared.caller.By.TheVariants.{User}
 use Rattle.lq_model.specs.declared.constraint.Unique.{Unique}
 use Rattle.lq_model.specs.declared.query.Wanted.TheVariants as wanted

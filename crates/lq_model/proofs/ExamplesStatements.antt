@@ -4,20 +4,17 @@ use Rattle.lq_base.specs.declared.dialect.Dialect.TheVariants.{Mysql, Postgresql
 use Rattle.lq_base.specs.declared.kind.Kind.TheVariants as kind
 use Rattle.lq_base.specs.declared.literal.Literal.TheVariants as literal
 use Rattle.lq_base.specs.Kind.{plain_kind, sized_kind}
-use Rattle.lq_base.specs.SqlLexeme.{lexemes, length_at}
+use Rattle.lq_base.specs.Sql.{lexemes, length_at}
 use Rattle.lq_model.proofs.ExampleWorld.{def, foreign_to, id, key_on, number, unique_on, up}
 use Rattle.lq_model.proofs.PlainText.{plain_cut}
-use Rattle.lq_model.specs.DefaultName.{key_name, unique_name, foreign_name}
+use Rattle.lq_model.specs.Sound.{key_name, unique_name, foreign_name}
 use Rattle.lq_model.specs.SqlText.{statement_in}
 use Rattle.lq_model.specs.SqlWord.{words, kind_of_word, unquoted}
-use Rattle.lq_model.specs.SqlStatement.{statement}
-use Rattle.lq_model.specs.SqlAlter.{alter, alter_table, add, add_column, add_constraint, rename_part, rename_table_to, new_name}
-use Rattle.lq_model.specs.SqlColumn.{added_column, stated_column, column_clause, identity, target, column_key, column_unique, column_foreign, foreign_to as foreign_stated}
+use Rattle.lq_model.specs.SqlStatement.{statement, create, create_sequence, whole, step}
+use Rattle.lq_model.specs.SqlAlter.{alter, alter_table, add, add_column, add_constraint, rename_part, rename_table_to, new_name, drop_object, drop_index, rename_table}
+use Rattle.lq_model.specs.SqlTable.{added_column, stated_column, column_clause, identity, target, column_key, column_unique, column_foreign, foreign_to as foreign_stated, create_table, table_item, column_item, table_of}
 use Rattle.lq_model.specs.SqlConstraint.{table_constraint, stated_name, key, foreign, on_delete}
-use Rattle.lq_model.specs.SqlCreate.{create, create_sequence, whole, step}
-use Rattle.lq_model.specs.SqlDrop.{drop_object, drop_index, rename_table}
 use Rattle.lq_model.specs.SqlRows.{insert, stated_columns}
-use Rattle.lq_model.specs.SqlTable.{create_table, table_item, column_item, table_of}
 use Rattle.lq_model.specs.SqlParser.{same_kind, sees, after, expect, ended, enclosed, separated, many, many_of, led_by}
 use Rattle.lq_model.specs.SqlPart.{name, name_of, column_kind, kind_with, sized_with, kind_number, literal as literal_rule, number as number_rule, object}
 use Rattle.lq_model.specs.declared.statement.Statement.TheVariants.{AddColumn, AddForeignKey, CreateSequence, CreateTable, DropIndex, DropTable, Insert, RenameTable}

@@ -7,7 +7,7 @@ use Rattle.lq_base.specs.declared.kind.Kind.{Kind}
 use Rattle.lq_base.specs.declared.literal.Literal.{Literal}
 use Rattle.lq_base.specs.declared.literal.Literal.TheVariants as literal
 use Rattle.lq_base.specs.declared.value.Value.TheVariants as value
-use Rattle.lq_model.specs.Literals.{column_of, default_value, is_wide, is_wrong, literal_of, value_in}
+use Rattle.lq_model.specs.Kinds.{column_of, default_value, is_wide, is_wrong, literal_of, value_in}
 use Rattle.lq_model.specs.declared.column.ColumnDef.{ColumnDef}
 
 pub null_fits : (k : Kind) → is_value_of k value.Null ≡ true

@@ -11,12 +11,10 @@ use Rattle.lq_base.specs.Name.{is_named, name_cmp}
 use Rattle.lq_base.specs.declared.dialect.Dialect.{Dialect}
 use Rattle.lq_base.specs.declared.dialect.Dialect.TheVariants.{Mysql, Postgresql}
 use Rattle.lq_base.specs.declared.name.Name.{Name}
-use Rattle.lq_model.specs.Catalogue.{Catalogue, Table, View, no_table, table_of, the_table, with_table}
+use Rattle.lq_model.specs.Catalogue.{Catalogue, Table, View, no_table, table_of, the_table, with_table, times, foreign_names, has_column, inner_names, placed}
 use Rattle.lq_model.specs.Kinds.{kind_of, kinds_at, kinds_differ, same_kinds}
 use Rattle.lq_model.specs.NameSpaces.{AreApart, names_inside, object_names}
-use Rattle.lq_model.specs.Names.{times}
 use Rattle.lq_model.specs.Sound.{IsSound, IsSoundTable, is_view, may_name}
-use Rattle.lq_model.specs.TableNames.{foreign_names, has_column, inner_names, placed}
 use Rattle.lq_model.specs.Truth.{names_in}
 use Rattle.lq_model.specs.declared.constraint.ForeignKey.{ForeignKey}
 use Rattle.lq_model.proofs.KeptKinds.{kinds_same, view_still}

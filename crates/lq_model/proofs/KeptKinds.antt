@@ -4,13 +4,10 @@ use Rattle.std.specs.List.{list_all, list_any}
 use Rattle.std.specs.Prelude.{Bool, List, None, Option, Some, [], cond, false, is_some, map, not, refl, true, ◌&&◌, ◌||◌, ◌∷◌, ◌≡◌}
 use Rattle.lq_base.specs.Name.{is_named}
 use Rattle.lq_base.specs.declared.name.Name.{Name}
-use Rattle.lq_model.specs.Catalogue.{Table, View}
-use Rattle.lq_model.specs.Comparison.{compares_wrongly, go_together, kinds_agree, sort_of, sort_of_column}
+use Rattle.lq_model.specs.Catalogue.{Table, View, is_empty, is_in, repeats, same_names, column_names}
+use Rattle.lq_model.specs.Comparison.{compares_wrongly, go_together, kinds_agree, sort_of, sort_of_column, is_spelled}
 use Rattle.lq_model.specs.Kinds.{kind_of}
-use Rattle.lq_model.specs.Names.{is_empty, is_in, repeats, same_names}
 use Rattle.lq_model.specs.Sound.{are_columns, wanted_names}
-use Rattle.lq_model.specs.Spelled.{is_spelled}
-use Rattle.lq_model.specs.TableNames.{column_names}
 use Rattle.lq_model.specs.Truth.{Both, Either, Turned, names_in, operand_names, test_names}
 use Rattle.lq_model.specs.declared.column.Column.{Column}
 use Rattle.lq_model.specs.declared.test.Operand.{Operand}

@@ -10,13 +10,10 @@ use Rattle.lq_base.specs.declared.dialect.Dialect.{Dialect}
 use Rattle.lq_base.specs.declared.dialect.Dialect.TheVariants.{Mysql, Postgresql}
 use Rattle.lq_base.specs.declared.name.Name.{Name}
 use Rattle.lq_base.specs.declared.value.Value.{Value}
-use Rattle.lq_model.specs.Catalogue.{Catalogue, Table, View, no_table, table_of}
+use Rattle.lq_model.specs.Catalogue.{Catalogue, Table, View, no_table, table_of, times, row_fits, foreign_names, inner_names, placed}
 use Rattle.lq_model.specs.Kinds.{kinds_at, kinds_differ, same_kinds}
 use Rattle.lq_model.specs.NameSpaces.{AreApart, AreApartWithin, names_inside, object_names}
-use Rattle.lq_model.specs.Names.{times}
-use Rattle.lq_model.specs.Row.{row_fits}
 use Rattle.lq_model.specs.Sound.{IsSoundTable, is_view, may_name}
-use Rattle.lq_model.specs.TableNames.{foreign_names, inner_names, placed}
 use Rattle.lq_model.specs.declared.constraint.ForeignKey.{ForeignKey}
 use Rattle.lq_model.proofs.Lists.{all_more, any-map, any_same}
 use Rattle.lq_model.proofs.Maps.{lookup-values, not_some, some_same}

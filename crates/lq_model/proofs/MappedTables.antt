@@ -9,12 +9,10 @@ use Rattle.lq_base.specs.Name.{name_cmp}
 use Rattle.lq_base.specs.declared.dialect.Dialect.{Dialect}
 use Rattle.lq_base.specs.declared.dialect.Dialect.TheVariants.{Mysql, Postgresql}
 use Rattle.lq_base.specs.declared.name.Name.{Name}
-use Rattle.lq_model.specs.Catalogue.{Catalogue, Sequence, Table, View, no_table, table_of, the_table}
+use Rattle.lq_model.specs.Catalogue.{Catalogue, Sequence, Table, View, no_table, table_of, the_table, times, foreign_names, inner_names}
 use Rattle.lq_model.specs.Kinds.{kind_of, kinds_at, kinds_differ, same_kinds}
 use Rattle.lq_model.specs.NameSpaces.{AreApart, names_inside, object_names}
-use Rattle.lq_model.specs.Names.{times}
 use Rattle.lq_model.specs.Sound.{IsSoundTable, is_view, may_name}
-use Rattle.lq_model.specs.TableNames.{foreign_names, inner_names}
 use Rattle.lq_model.specs.declared.constraint.ForeignKey.{ForeignKey}
 use Rattle.lq_model.proofs.Lists.{all_more, any-map, any_same}
 use Rattle.lq_model.proofs.Mapped.{mapped_some}

@@ -14,7 +14,7 @@ use Rattle.std.specs.declared.cmp.Ordering.{Ordering}
 use Rattle.std.specs.declared.cmp.Ordering.TheVariants.{Equal, Greater, Less}
 use Rattle.lq_base.specs.Name.{is_named, name_cmp}
 use Rattle.lq_base.specs.declared.name.Name.{Name}
-use Rattle.lq_model.specs.Names.{is_in}
+use Rattle.lq_model.specs.Catalogue.{is_in}
 use Rattle.lq_model.proofs.Lists.{or_false, or_left, or_right, other_way, same_name, true_false}
 
 pub not_some : {A X : Type 0} {x : X} → (let o : Option X = Some x in o) ≡ None → A

@@ -9,13 +9,10 @@ use Rattle.lq_base.specs.declared.dialect.Dialect.{Dialect}
 use Rattle.lq_base.specs.declared.kind.Kind.{Kind}
 use Rattle.lq_base.specs.declared.name.Name.{Name}
 use Rattle.lq_base.specs.declared.value.Value.{Value}
-use Rattle.lq_model.specs.Catalogue.{Catalogue, Table, table_of, the_table, with_table}
-use Rattle.lq_model.specs.ChangeColumn.{changed_at, kind_needed, modified, modify, with_changed}
+use Rattle.lq_model.specs.Catalogue.{Catalogue, Table, table_of, the_table, with_table, is_in, repeats, by_name, row_fits}
+use Rattle.lq_model.specs.Tables.{changed_at, kind_needed, modified, modify, with_changed, is_aimed, is_in_foreign, is_in_key, is_shown}
 use Rattle.lq_model.specs.Kinds.{kind_of, same_kind}
-use Rattle.lq_model.specs.Names.{is_in, repeats}
-use Rattle.lq_model.specs.Needs.{is_aimed, is_in_foreign, is_in_key, is_shown}
 use Rattle.lq_model.specs.Plan.{Plan}
-use Rattle.lq_model.specs.Row.{by_name, row_fits}
 use Rattle.lq_model.specs.Sound.{IsSound, IsSoundTable, default_fits, is_numbered_well}
 use Rattle.lq_model.specs.Step.{step}
 use Rattle.lq_model.specs.declared.caller.By.{By}

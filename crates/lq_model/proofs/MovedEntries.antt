@@ -8,7 +8,7 @@ use Rattle.std.specs.Map.{keys_of, lookup, remove_entry}
 use Rattle.std.specs.Prelude.{Bool, List, None, Some, T, [], cond, false, map, refl, true, ◌+◌, ◌≡◌}
 use Rattle.lq_base.specs.Name.{is_named, name_cmp}
 use Rattle.lq_base.specs.declared.name.Name.{Name}
-use Rattle.lq_model.specs.Names.{times}
+use Rattle.lq_model.specs.Catalogue.{times}
 use Rattle.lq_model.proofs.Counts.{keys-insert, keys-remove, once}
 use Rattle.lq_model.proofs.Lists.{named_itself, other_way, same_name, whether}
 use Rattle.lq_model.proofs.Maps.{any_none-insert_entry, any_none-remove_entry, lookup-insert_entry, lookup-remove_entry, not_some, same_maps, sorted-insert_entry, sorted-remove_entry, sorted_entries, sorted_keys}

@@ -7,11 +7,9 @@ use Rattle.lq_base.specs.Name.{is_named}
 use Rattle.lq_base.specs.declared.dialect.Dialect.{Dialect}
 use Rattle.lq_base.specs.declared.dialect.Dialect.TheVariants.{Mysql, Postgresql}
 use Rattle.lq_base.specs.declared.name.Name.{Name}
-use Rattle.lq_model.specs.Catalogue.{Catalogue, Table, table_of, the_table, with_table}
+use Rattle.lq_model.specs.Catalogue.{Catalogue, Table, table_of, the_table, with_table, is_in, times, constraint_names, foreign_names, index_names, inner_names, key_list, placed}
 use Rattle.lq_model.specs.NameSpaces.{AreApart, all_foreign_names, names_inside, object_names, shared_names}
-use Rattle.lq_model.specs.Names.{is_in, times}
-use Rattle.lq_model.specs.Statement.{is_pg}
-use Rattle.lq_model.specs.TableNames.{constraint_names, foreign_names, index_names, inner_names, key_list, placed}
+use Rattle.lq_model.specs.Step.{is_pg}
 use Rattle.lq_model.specs.declared.constraint.ForeignKey.{ForeignKey}
 use Rattle.lq_model.specs.declared.constraint.Key.{Key}
 use Rattle.lq_model.specs.declared.constraint.Unique.{Unique}

@@ -3,9 +3,9 @@ use Rattle.std.proofs.Common.{ap, sym, ◌∙◌}
 use Rattle.std.specs.List.{filter}
 use Rattle.std.specs.Prelude.{Bool, List, [], cond, false, length, map, refl, true, ◌∷◌, ◌≡◌}
 use Rattle.lq_model.specs.Catalogue.{the_table, with_table}
-use Rattle.lq_model.specs.NoRow.{UpdateOfNoRow}
+use Rattle.lq_model.specs.Step.{UpdateOfNoRow}
 use Rattle.lq_model.specs.Truth.{takes}
-use Rattle.lq_model.specs.Update.{set_all, update}
+use Rattle.lq_model.specs.Rows.{set_all, update}
 use Rattle.lq_model.proofs.Decide.{accepted, counted, here}
 use Rattle.lq_model.proofs.Kept.{with_table-itself}
 use Rattle.lq_model.proofs.Lists.{or_left}

@@ -10,7 +10,7 @@ use Rattle.std.proofs.lemmas.Int.{to_z-of_z}
 use Rattle.std.proofs.lemmas.List.{append_assoc}
 use lib.Signed.{mag}
 use Rattle.std.specs.Int.{w128}
-use Rattle.lq_model.specs.Canon.{atom, decimal_digits, numeral, signed_numeral}
+use Rattle.lq_model.specs.Changes.{atom, decimal_digits, numeral, signed_numeral}
 
 above_zero : (n : ℕ) → 0 < n → decimal_digits n ≡ digits_of 10 n
 unfolding decimal_digits

@@ -2,8 +2,8 @@
 use Rattle.std.proofs.Common.{ap, sym, ◌∙◌}
 use Rattle.std.proofs.lemmas.List.{append_assoc}
 use Rattle.std.specs.Prelude.{List, None, Option, Some, [], refl, ℕ, ◌++◌, ◌∷◌, ◌≡◌}
-use Rattle.lq_model.specs.Canon.{CanonicalValue, atom, canonical, canonical_pairs}
-use Rattle.lq_model.specs.Written.{Row, pair_if, pairs_of}
+use Rattle.lq_model.specs.Changes.{CanonicalValue, atom, canonical, canonical_pairs}
+use Rattle.lq_model.specs.TakesBack.{Row, pair_if, pairs_of}
 
 pub pairs_apart : (first more : List Row) → canonical_pairs (pairs_of (first ++ more)) ≡ canonical_pairs (pairs_of first) ++ canonical_pairs (pairs_of more)
 pairs_apart [] more = refl

@@ -5,9 +5,8 @@ use Rattle.std.specs.List.{list_any}
 use Rattle.std.specs.Prelude.{Bool, List, [], codes, cond, false, map, refl, true, ℕ, ◌++◌, ◌+◌, ◌||◌, ◌∷◌, ◌⊎◌, ◌≡◌, ◌≢◌, ◌≤◌, ◌==◌}
 use Rattle.lq_base.specs.Name.{beside, is_named, parts_of, place_in, place_of}
 use Rattle.lq_base.specs.declared.name.Name.{Name}
-use Rattle.lq_model.specs.Names.{is_in, times}
-use Rattle.lq_model.specs.Reserved.{is_tracking, lower}
-use Rattle.lq_model.specs.TableNames.{placed}
+use Rattle.lq_model.specs.Catalogue.{is_in, times, placed}
+use Rattle.lq_model.specs.NameSpaces.{is_tracking, lower}
 use Rattle.lq_model.proofs.Lists.{named_itself, or_false, same_name, true_false, whether}
 use Rattle.lq_model.proofs.Counts.{once}
 

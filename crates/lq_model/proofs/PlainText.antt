@@ -5,7 +5,7 @@ use Rattle.std.specs.Str.{is_utf8, IsAscii}
 use Rattle.std.proofs.Common.{arith}
 use Rattle.std.proofs.lemmas.Str.{is_utf8-from_IsUtf8, IsUtf8-from_ascii}
 use Rattle.std.proofs.lemmas.List.{take_all}
-use Rattle.lq_model.specs.DefaultName.{cut}
+use Rattle.lq_model.specs.Sound.{cut}
 
 abbrev pub is_plain : List ℕ → Bool
 is_plain bytes = list_all (λ b. nat_lt b 128) bytes

@@ -1,18 +1,10 @@
 -- What a user's statement does, the program's does too.
 use Rattle.std.proofs.Common.{◌≡◌, ◌∙◌, ℕ, Bool, true, false, ◌||◌, ◌&&◌, not, [], ◌∷◌, Ok, None, Some, is_some, refl, sym, ap}
 use Rattle.lq_base.specs.declared.dialect.Dialect.{Dialect}
-use Rattle.lq_model.specs.Catalogue.{Catalogue, the_table, view_of}
-use Rattle.lq_model.specs.CreateTable.{new_table}
-use Rattle.lq_model.specs.NameSpaces.{is_taken}
-use Rattle.lq_model.specs.NameSpaces.{are_clashing}
-use Rattle.lq_model.specs.Reserved.{takes_lock_key}
-use Rattle.lq_model.specs.TableNames.{inner_names, placed}
-use Rattle.lq_model.specs.CreateTable.{lists_twice}
-use Rattle.lq_model.specs.NameSpaces.{key_taken}
-use Rattle.lq_model.specs.Names.{repeats}
-use Rattle.lq_model.specs.NameSpaces.{unique_taken}
-use Rattle.lq_model.specs.NameSpaces.{index_taken}
-use Rattle.lq_model.specs.Query.{listed}
+use Rattle.lq_model.specs.Catalogue.{Catalogue, the_table, view_of, inner_names, placed, repeats}
+use Rattle.lq_model.specs.Tables.{new_table, lists_twice}
+use Rattle.lq_model.specs.NameSpaces.{is_taken, are_clashing, takes_lock_key, key_taken, unique_taken, index_taken}
+use Rattle.lq_model.specs.Views.{listed}
 use Rattle.lq_model.specs.Plan.{Plan, decide}
 use Rattle.lq_model.specs.Step.{plan, step}
 use Rattle.lq_model.specs.declared.caller.By.{By}

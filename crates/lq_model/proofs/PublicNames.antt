@@ -7,12 +7,9 @@ use Rattle.lq_base.specs.declared.dialect.Dialect.{Dialect}
 use Rattle.lq_base.specs.declared.dialect.Dialect.TheVariants.{Mysql, Postgresql}
 use Rattle.lq_base.specs.declared.name.Name.{Name}
 use Rattle.lq_base.proofs.BesideLemmas.{not_elsewhere, place_here, public_there}
-use Rattle.lq_model.specs.Catalogue.{Catalogue, Sequence, Table}
-use Rattle.lq_model.specs.NameSpaces.{object_names}
-use Rattle.lq_model.specs.Names.{is_empty, is_in, times}
-use Rattle.lq_model.specs.Reserved.{lock_key}
+use Rattle.lq_model.specs.Catalogue.{Catalogue, Sequence, Table, is_empty, is_in, times, column_names, constraint_names, own_names, placed}
+use Rattle.lq_model.specs.NameSpaces.{object_names, lock_key}
 use Rattle.lq_model.specs.Sound.{may_have, may_name}
-use Rattle.lq_model.specs.TableNames.{column_names, constraint_names, own_names, placed}
 use Rattle.lq_model.specs.declared.index.Index.{Index}
 use Rattle.lq_model.proofs.Counts.{once}
 use Rattle.lq_model.proofs.Kept.{not_so_true}

@@ -16,16 +16,12 @@ use Rattle.lq_base.specs.declared.kind.Kind.{Kind}
 use Rattle.lq_base.specs.declared.name.Name.{Name}
 use Rattle.lq_base.specs.declared.value.Value.{Value}
 use Rattle.lq_base.proofs.BesideLemmas.{not_elsewhere}
-use Rattle.lq_model.specs.Catalogue.{Catalogue, Sequence, Table, View, no_table, table_of, the_table}
+use Rattle.lq_model.specs.Catalogue.{Catalogue, Sequence, Table, View, no_table, table_of, the_table, is_empty, is_in, renamed, repeats, same_names, times, row_fits, column_lists, column_names, constraint_names, foreign_names, has_column, inner_names, key_list, own_names, placed, target_lists}
 use Rattle.lq_model.specs.Kinds.{is_number, kind_of, kinds_at, kinds_differ, same_kinds}
 use Rattle.lq_model.specs.NameSpaces.{AreApartWithin, names_inside, object_names}
-use Rattle.lq_model.specs.Names.{is_empty, is_in, renamed, repeats, same_names, times}
-use Rattle.lq_model.specs.Needs.{aims_at, is_shown}
-use Rattle.lq_model.specs.RenameColumn.{name_at, names_at, rename_column, with_column_renamed}
-use Rattle.lq_model.specs.Row.{row_fits}
+use Rattle.lq_model.specs.Tables.{aims_at, is_shown, name_at, names_at, rename_column, with_column_renamed}
 use Rattle.lq_model.specs.Sound.{IsSound, IsSoundTable, are_columns, default_fits, is_key_name, is_key_of, is_not_null, is_numbered_well, is_unlike, is_view, may_name}
 use Rattle.lq_model.specs.Step.{step}
-use Rattle.lq_model.specs.TableNames.{column_lists, column_names, constraint_names, foreign_names, has_column, inner_names, key_list, own_names, placed, target_lists}
 use Rattle.lq_model.specs.Truth.{names_in}
 use Rattle.lq_model.specs.declared.caller.By.{By}
 use Rattle.lq_model.specs.declared.column.Column.{Column}

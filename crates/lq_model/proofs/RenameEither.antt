@@ -6,9 +6,8 @@ use Rattle.lq_base.specs.Name.{is_beside, is_named, is_object}
 use Rattle.lq_base.specs.declared.dialect.Dialect.{Dialect}
 use Rattle.lq_base.specs.declared.name.Name.{Name}
 use Rattle.lq_model.specs.Catalogue.{Catalogue, Table, View, table_of, view_of}
-use Rattle.lq_model.specs.NameSpaces.{is_taken}
-use Rattle.lq_model.specs.Rename.{rename_table, table_renamed, view_renamed}
-use Rattle.lq_model.specs.Reserved.{is_reserved, takes_lock_key}
+use Rattle.lq_model.specs.NameSpaces.{is_taken, is_reserved, takes_lock_key}
+use Rattle.lq_model.specs.Tables.{rename_table, table_renamed, view_renamed}
 use Rattle.lq_model.specs.Sound.{IsSound}
 use Rattle.lq_model.specs.Step.{step}
 use Rattle.lq_model.specs.declared.caller.By.{By}

@@ -11,16 +11,12 @@ use Rattle.lq_base.specs.Name.{is_beside, is_elsewhere, is_named, is_object, nam
 use Rattle.lq_base.specs.declared.dialect.Dialect.{Dialect}
 use Rattle.lq_base.specs.declared.dialect.Dialect.TheVariants.{Mysql, Postgresql}
 use Rattle.lq_base.specs.declared.name.Name.{Name}
-use Rattle.lq_model.specs.Catalogue.{Catalogue, Sequence, Table, View, no_table, table_of, the_table, view_of}
+use Rattle.lq_model.specs.Catalogue.{Catalogue, Sequence, Table, View, no_table, table_of, the_table, view_of, renamed, times, column_names, foreign_names, inner_names, key_list}
 use Rattle.lq_model.specs.Kinds.{kinds_at, kinds_differ, same_kinds}
-use Rattle.lq_model.specs.NameSpaces.{AreApartWithin, is_taken, names_inside}
-use Rattle.lq_model.specs.Names.{renamed, times}
-use Rattle.lq_model.specs.Needs.{is_viewed, targets_table}
-use Rattle.lq_model.specs.Rename.{rename_table, retarget, retargeted, table_renamed, view_renamed}
-use Rattle.lq_model.specs.Reserved.{is_reserved, takes_lock_key}
+use Rattle.lq_model.specs.NameSpaces.{AreApartWithin, is_taken, names_inside, is_reserved, takes_lock_key}
+use Rattle.lq_model.specs.Tables.{is_viewed, targets_table, rename_table, retarget, retargeted, table_renamed, view_renamed}
 use Rattle.lq_model.specs.Sound.{IsSound, IsSoundTable, are_columns, is_unlike, is_view}
 use Rattle.lq_model.specs.Step.{step}
-use Rattle.lq_model.specs.TableNames.{column_names, foreign_names, inner_names, key_list}
 use Rattle.lq_model.specs.declared.caller.By.{By}
 use Rattle.lq_model.specs.declared.constraint.ForeignKey.{ForeignKey}
 use Rattle.lq_model.specs.declared.constraint.Key.{Key}

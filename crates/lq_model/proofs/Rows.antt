@@ -9,16 +9,12 @@ use Rattle.lq_base.specs.declared.literal.Literal.{Literal}
 use Rattle.lq_base.specs.declared.literal.Literal.TheVariants as literal
 use Rattle.lq_base.specs.declared.name.Name.{Name}
 use Rattle.lq_base.specs.declared.value.Value.{Value}
-use Rattle.lq_model.specs.Catalogue.{Catalogue, the_table, with_table}
-use Rattle.lq_model.specs.Delete.{cascaded, delete, is_lost, row_count, without_lost, without_taken}
-use Rattle.lq_model.specs.Insert.{cell, insert, row_of, stated, with_row}
-use Rattle.lq_model.specs.Kinds.{kind_in}
-use Rattle.lq_model.specs.Literals.{default_value, is_wide, is_wrong, value_in}
-use Rattle.lq_model.specs.Row.{row_fits}
+use Rattle.lq_model.specs.Catalogue.{Catalogue, the_table, with_table, row_fits}
+use Rattle.lq_model.specs.Rows.{cascaded, delete, is_lost, row_count, without_lost, without_taken, cell, insert, row_of, stated, with_row, edited, set_all, set_in, set_value_of, update}
+use Rattle.lq_model.specs.Kinds.{kind_in, default_value, is_wide, is_wrong, value_in}
 use Rattle.lq_model.specs.Sound.{IsSound, default_fits}
 use Rattle.lq_model.specs.Step.{step}
 use Rattle.lq_model.specs.Truth.{takes}
-use Rattle.lq_model.specs.Update.{edited, set_all, set_in, set_value_of, update}
 use Rattle.lq_model.specs.declared.caller.By.{By}
 use Rattle.lq_model.specs.declared.column.Column.{Column}
 use Rattle.lq_model.specs.declared.statement.Statement.TheVariants.{Delete, Insert, Update}

@@ -2,10 +2,10 @@
 use Rattle.std.proofs.Common.{ap, sym, ◌∙◌}
 use Rattle.std.specs.Prelude.{Bool, List, None, Option, Some, [], false, map, refl, true, ℕ, ◌||◌, ◌∷◌, ◌≡◌}
 use Rattle.lq_base.specs.Name.{is_named}
-use Rattle.lq_model.specs.Canon.{CanonicalPairs, CanonicalValue, no_pairs, pair}
-use Rattle.lq_model.specs.Names.{is_in, repeats}
+use Rattle.lq_model.specs.Changes.{CanonicalPairs, CanonicalValue, no_pairs, pair}
+use Rattle.lq_model.specs.Catalogue.{is_in, repeats}
 use Rattle.lq_model.proofs.Lists.{named_itself, or_left, or_right, true_false}
-use Rattle.lq_model.specs.Written.{Row, pair_if, pairs_of}
+use Rattle.lq_model.specs.TakesBack.{Row, pair_if, pairs_of}
 
 abbrev key_names : List Row → List (List ℕ)
 key_names rows = map (λ row. row.0) rows

@@ -12,15 +12,12 @@ use Rattle.lq_base.specs.declared.dialect.Dialect.{Dialect}
 use Rattle.lq_base.specs.declared.dialect.Dialect.TheVariants.{Mysql, Postgresql}
 use Rattle.lq_base.specs.declared.literal.Literal.TheVariants as literal
 use Rattle.lq_base.specs.declared.name.Name.{Name}
-use Rattle.lq_model.specs.Catalogue.{Catalogue, Sequence, Table, View, sequence_of, view_of, with_sequence, without_sequence}
-use Rattle.lq_model.specs.NameSpaces.{AreApart, is_taken, names_inside, object_names}
-use Rattle.lq_model.specs.Names.{is_in, times}
-use Rattle.lq_model.specs.Reserved.{is_reserved, is_tracking, lock_key, takes_lock_key}
-use Rattle.lq_model.specs.Sequences.{create_sequence, drop_sequence, rename_sequence, sequence_renamed}
+use Rattle.lq_model.specs.Catalogue.{Catalogue, Sequence, Table, View, sequence_of, view_of, with_sequence, without_sequence, is_in, times}
+use Rattle.lq_model.specs.NameSpaces.{AreApart, is_taken, names_inside, object_names, is_reserved, is_tracking, lock_key, takes_lock_key}
+use Rattle.lq_model.specs.Views.{create_sequence, drop_sequence, rename_sequence, sequence_renamed}
 use Rattle.lq_model.specs.Sound.{IsSound, may_have}
-use Rattle.lq_model.specs.Spelled.{is_literal}
-use Rattle.lq_model.specs.Statement.{is_pg, is_statement}
-use Rattle.lq_model.specs.Step.{step}
+use Rattle.lq_model.specs.Comparison.{is_literal}
+use Rattle.lq_model.specs.Step.{is_pg, is_statement, step}
 use Rattle.lq_model.specs.declared.caller.By.{By}
 use Rattle.lq_model.specs.declared.caller.By.TheVariants.{Program, User}
 use Rattle.lq_model.specs.declared.statement.Statement.TheVariants.{CreateSequence, DropSequence, RenameSequence}

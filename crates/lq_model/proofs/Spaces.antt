@@ -6,9 +6,8 @@ use Rattle.lq_base.specs.Name.{is_named}
 use Rattle.lq_base.specs.declared.dialect.Dialect.{Dialect}
 use Rattle.lq_base.specs.declared.dialect.Dialect.TheVariants.{Mysql, Postgresql}
 use Rattle.lq_base.specs.declared.name.Name.{Name}
-use Rattle.lq_model.specs.Catalogue.{Catalogue}
+use Rattle.lq_model.specs.Catalogue.{Catalogue, times}
 use Rattle.lq_model.specs.NameSpaces.{AreApart, all_foreign_names, is_taken, names_inside, object_names, shared_names}
-use Rattle.lq_model.specs.Names.{times}
 use Rattle.lq_model.proofs.Counts.{once, swapped}
 use Rattle.lq_model.proofs.Lists.{named_itself, same_name}
 use Rattle.lq_model.proofs.Times.{none_times, one_more, times-append, times_none}

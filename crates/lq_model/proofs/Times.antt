@@ -5,7 +5,7 @@ use Rattle.std.specs.Map.{lookup, set_value}
 use Rattle.std.specs.Prelude.{List, Some, [], cond, false, refl, true, ℕ, ◌++◌, ◌+◌, ◌||◌, ◌∷◌, ◌≡◌, ◌≤◌}
 use Rattle.lq_base.specs.Name.{is_named}
 use Rattle.lq_base.specs.declared.name.Name.{Name}
-use Rattle.lq_model.specs.Names.{is_in, times}
+use Rattle.lq_model.specs.Catalogue.{is_in, times}
 use Rattle.lq_model.proofs.Lists.{same_name, true_false}
 use Rattle.lq_model.proofs.Maps.{not_some, some_same}
 

@@ -5,8 +5,7 @@ use Rattle.std.specs.List.{list_all}
 use Rattle.std.specs.Prelude.{Bool, List, None, Option, Some, [], false, if◌then◌else◌, is_some, map, nat_le, option_map, refl, true, unsigned_abs, ℕ, ℤ, ◌<◌, ◌^◌, ◌∷◌, ◌≡◌, ◌≤◌}
 use Rattle.lq_base.specs.Kind.{is_kind, kind_of, kind_text}
 use Rattle.lq_base.specs.Name.{is_name_key, is_object, parts_of, schema_in, schema_of, text_of, within}
-use Rattle.lq_base.specs.Number.{fixed_text, number_of}
-use Rattle.lq_base.specs.Options.{if_there}
+use Rattle.lq_base.specs.Number.{fixed_text, number_of, if_there}
 use Rattle.lq_base.specs.declared.dialect.Dialect.{Dialect}
 use Rattle.lq_base.specs.declared.dialect.Dialect.TheVariants.{Postgresql}
 use Rattle.lq_base.specs.declared.kind.Kind.{Kind}
@@ -16,10 +15,10 @@ use Rattle.lq_base.proofs.BesideLemmas.{is_whole}
 use Rattle.lq_base.proofs.KindSpelled.{kind_text-names, names-kind_of}
 use Rattle.lq_base.proofs.NameLemmas.{names_tell_keys}
 use Rattle.lq_base.proofs.NumberPrinted.{number_of-fixed_text}
-use Rattle.lq_model.specs.Canon.{CanonicalPairs, CanonicalValue, CanonicalValues, canonical_change, decimal_value, kind_value, list, map_of, number, text, truth, value}
-use Rattle.lq_model.specs.Names.{repeats}
-use Rattle.lq_model.specs.Spelled.{is_literal}
-use Rattle.lq_model.specs.Written.{Row, change_of, map_with, maps, schema_row, texts}
+use Rattle.lq_model.specs.Changes.{CanonicalPairs, CanonicalValue, CanonicalValues, canonical_change, decimal_value, kind_value, list, map_of, number, text, truth, value}
+use Rattle.lq_model.specs.Catalogue.{repeats}
+use Rattle.lq_model.specs.Comparison.{is_literal}
+use Rattle.lq_model.specs.TakesBack.{Row, change_of, map_with, maps, schema_row, texts}
 use Rattle.lq_model.proofs.CanonLemmas.{change_told}
 use Rattle.lq_model.proofs.Lists.{and_left, and_right}
 use Rattle.lq_model.proofs.RowsTold.{rows_told}

@@ -8,15 +8,11 @@ use Rattle.lq_base.specs.declared.dialect.Dialect.{Dialect}
 use Rattle.lq_base.specs.declared.literal.Literal.{Literal}
 use Rattle.lq_base.specs.declared.name.Name.{Name}
 use Rattle.lq_base.specs.declared.value.Value.{Value}
-use Rattle.lq_model.specs.Catalogue.{Catalogue, Table, table_of, the_table, with_table}
-use Rattle.lq_model.specs.ChangeColumn.{changed_at, drop_default, drop_not_null, made_nullable, set_default, set_not_null, with_changed, with_default}
-use Rattle.lq_model.specs.Kinds.{kind_in}
-use Rattle.lq_model.specs.Literals.{value_in}
-use Rattle.lq_model.specs.Names.{is_in}
-use Rattle.lq_model.specs.Needs.{is_in_key}
+use Rattle.lq_model.specs.Catalogue.{Catalogue, Table, table_of, the_table, with_table, is_in, has_column, key_list}
+use Rattle.lq_model.specs.Tables.{changed_at, drop_default, drop_not_null, made_nullable, set_default, set_not_null, with_changed, with_default, is_in_key}
+use Rattle.lq_model.specs.Kinds.{kind_in, value_in}
 use Rattle.lq_model.specs.Sound.{IsSound, IsSoundTable, is_not_null}
 use Rattle.lq_model.specs.Step.{step}
-use Rattle.lq_model.specs.TableNames.{has_column, key_list}
 use Rattle.lq_model.specs.TakesBack.{is_each}
 use Rattle.lq_model.specs.declared.caller.By.{By}
 use Rattle.lq_model.specs.declared.column.Column.{Column}

@@ -5,17 +5,12 @@ use Rattle.std.specs.Prelude.{Bool, List, None, Ok, Option, Some, [], cond, fals
 use Rattle.lq_base.specs.Name.{beside, is_named}
 use Rattle.lq_base.specs.declared.dialect.Dialect.TheVariants.{Postgresql}
 use Rattle.lq_base.specs.declared.name.Name.{Name}
-use Rattle.lq_model.specs.AddConstraint.{add_foreign_key, add_primary_key, add_unique, with_key}
-use Rattle.lq_model.specs.Catalogue.{Catalogue, Table, table_of, the_table, with_table}
-use Rattle.lq_model.specs.CreateTable.{key_column}
-use Rattle.lq_model.specs.DropConstraint.{drop_constraint, without_constraint, without_key}
-use Rattle.lq_model.specs.NameSpaces.{shared_names}
-use Rattle.lq_model.specs.Names.{is_in}
-use Rattle.lq_model.specs.Needs.{has_numbered}
-use Rattle.lq_model.specs.Reserved.{is_reserved, is_tracking}
+use Rattle.lq_model.specs.Constraints.{add_foreign_key, add_primary_key, add_unique, with_key, drop_constraint, without_constraint, without_key}
+use Rattle.lq_model.specs.Catalogue.{Catalogue, Table, table_of, the_table, with_table, is_in, constraint_names, key_list}
+use Rattle.lq_model.specs.Tables.{key_column, has_numbered}
+use Rattle.lq_model.specs.NameSpaces.{shared_names, is_reserved, is_tracking}
 use Rattle.lq_model.specs.Sound.{IsSound}
 use Rattle.lq_model.specs.Step.{step}
-use Rattle.lq_model.specs.TableNames.{constraint_names, key_list}
 use Rattle.lq_model.specs.TakesBack.{is_firm}
 use Rattle.lq_model.specs.declared.caller.By.{By}
 use Rattle.lq_model.specs.declared.caller.By.TheVariants.{Program, User}

@@ -6,15 +6,11 @@ use Rattle.std.specs.Prelude.{Bool, List, None, Ok, Some, [], cond, false, map, 
 use Rattle.lq_base.specs.Name.{beside, is_named}
 use Rattle.lq_base.specs.declared.dialect.Dialect.TheVariants.{Postgresql}
 use Rattle.lq_base.specs.declared.name.Name.{Name}
-use Rattle.lq_model.specs.AddConstraint.{create_index}
-use Rattle.lq_model.specs.Catalogue.{Catalogue, Table, the_table, with_table}
-use Rattle.lq_model.specs.DropConstraint.{drop_index, has_index_in, without_index_in}
-use Rattle.lq_model.specs.NameSpaces.{names_inside, object_names, shared_names}
-use Rattle.lq_model.specs.Names.{is_in}
-use Rattle.lq_model.specs.Reserved.{is_reserved, is_tracking}
+use Rattle.lq_model.specs.Constraints.{create_index, drop_index, has_index_in, without_index_in}
+use Rattle.lq_model.specs.Catalogue.{Catalogue, Table, the_table, with_table, is_in, inner_names, key_list}
+use Rattle.lq_model.specs.NameSpaces.{names_inside, object_names, shared_names, is_reserved, is_tracking}
 use Rattle.lq_model.specs.Sound.{IsSound}
 use Rattle.lq_model.specs.Step.{step}
-use Rattle.lq_model.specs.TableNames.{inner_names, key_list}
 use Rattle.lq_model.specs.declared.caller.By.{By}
 use Rattle.lq_model.specs.declared.caller.By.TheVariants.{Program, User}
 use Rattle.lq_model.specs.declared.index.Index.{Index}

@@ -10,15 +10,11 @@ use Rattle.lq_base.specs.declared.kind.Kind.{Kind}
 use Rattle.lq_base.specs.declared.kind.Kind.TheVariants as kind
 use Rattle.lq_base.specs.declared.name.Name.{Name}
 use Rattle.lq_base.specs.declared.value.Value.{Value}
-use Rattle.lq_model.specs.Catalogue.{Catalogue, Table, table_of, the_table}
-use Rattle.lq_model.specs.ChangeColumn.{changed_at, is_variant, modified, modify, with_changed}
+use Rattle.lq_model.specs.Catalogue.{Catalogue, Table, table_of, the_table, is_in, by_name, has_column}
+use Rattle.lq_model.specs.Tables.{changed_at, is_variant, modified, modify, with_changed, is_aimed, is_in_foreign, is_in_key, is_shown}
 use Rattle.lq_model.specs.Kinds.{equal_kinds, kind_of, same_kind}
-use Rattle.lq_model.specs.Names.{is_in}
-use Rattle.lq_model.specs.Needs.{is_aimed, is_in_foreign, is_in_key, is_shown}
-use Rattle.lq_model.specs.Row.{by_name}
 use Rattle.lq_model.specs.Sound.{IsSound}
 use Rattle.lq_model.specs.Step.{step}
-use Rattle.lq_model.specs.TableNames.{has_column}
 use Rattle.lq_model.specs.TakesBack.{is_each, is_plain_of}
 use Rattle.lq_model.specs.declared.caller.By.{By}
 use Rattle.lq_model.specs.declared.column.Column.{Column}

@@ -6,17 +6,13 @@ use Rattle.lq_base.specs.Name.{is_named}
 use Rattle.lq_base.specs.declared.dialect.Dialect.{Dialect}
 use Rattle.lq_base.specs.declared.dialect.Dialect.TheVariants.{Mysql}
 use Rattle.lq_base.specs.declared.name.Name.{Name}
-use Rattle.lq_model.specs.AddConstraint.{add_foreign_key, add_primary_key, add_unique, create_index, with_foreign, with_index, with_key, with_unique}
-use Rattle.lq_model.specs.Catalogue.{Catalogue, Table, table_of, the_table, with_table}
-use Rattle.lq_model.specs.DropConstraint.{drop_foreign_key, drop_index, drop_primary_key, drop_unique, has_index, without_foreign, without_index, without_its_key, without_unique}
-use Rattle.lq_model.specs.NameSpaces.{all_foreign_names, foreign_taken, index_taken, unique_taken}
-use Rattle.lq_model.specs.Names.{is_in}
-use Rattle.lq_model.specs.Needs.{has_numbered}
+use Rattle.lq_model.specs.Constraints.{add_foreign_key, add_primary_key, add_unique, create_index, with_foreign, with_index, with_key, with_unique, drop_foreign_key, drop_index, drop_primary_key, drop_unique, has_index, without_foreign, without_index, without_its_key, without_unique}
+use Rattle.lq_model.specs.Catalogue.{Catalogue, Table, table_of, the_table, with_table, is_in, foreign_names}
+use Rattle.lq_model.specs.NameSpaces.{all_foreign_names, foreign_taken, index_taken, unique_taken, is_reserved, is_tracking}
+use Rattle.lq_model.specs.Tables.{has_numbered}
 use Rattle.lq_model.specs.Plan.{Plan, decide}
-use Rattle.lq_model.specs.Reserved.{is_reserved, is_tracking}
 use Rattle.lq_model.specs.Sound.{IsSound}
 use Rattle.lq_model.specs.Step.{step}
-use Rattle.lq_model.specs.TableNames.{foreign_names}
 use Rattle.lq_model.specs.TakesBack.{is_firm}
 use Rattle.lq_model.specs.declared.caller.By.{By}
 use Rattle.lq_model.specs.declared.caller.By.TheVariants.{Program, User}

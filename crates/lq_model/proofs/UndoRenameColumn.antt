@@ -9,13 +9,10 @@ use Rattle.std.specs.Prelude.{Bool, List, None, Ok, Option, Some, T, [], cond, f
 use Rattle.lq_base.specs.Name.{is_named, name_cmp}
 use Rattle.lq_base.specs.declared.dialect.Dialect.{Dialect}
 use Rattle.lq_base.specs.declared.name.Name.{Name}
-use Rattle.lq_model.specs.Catalogue.{Catalogue, Table, no_table, table_of, the_table}
-use Rattle.lq_model.specs.Names.{is_in, renamed}
-use Rattle.lq_model.specs.Needs.{aims_at, is_bound}
-use Rattle.lq_model.specs.RenameColumn.{name_at, names_at, rename_column, with_column_renamed}
+use Rattle.lq_model.specs.Catalogue.{Catalogue, Table, no_table, table_of, the_table, is_in, renamed, column_names, has_column, key_list, target_lists}
+use Rattle.lq_model.specs.Tables.{aims_at, is_bound, name_at, names_at, rename_column, with_column_renamed}
 use Rattle.lq_model.specs.Sound.{IsSound}
 use Rattle.lq_model.specs.Step.{step}
-use Rattle.lq_model.specs.TableNames.{column_names, has_column, key_list, target_lists}
 use Rattle.lq_model.specs.declared.caller.By.{By}
 use Rattle.lq_model.specs.declared.column.Column.{Column}
 use Rattle.lq_model.specs.declared.constraint.ForeignKey.{ForeignKey}

@@ -5,11 +5,9 @@ use Rattle.std.specs.Prelude.{Bool, List, Some, [], false, not, refl, true, ◌&
 use Rattle.lq_base.specs.Name.{is_named}
 use Rattle.lq_base.specs.declared.dialect.Dialect.{Dialect}
 use Rattle.lq_base.specs.declared.name.Name.{Name}
-use Rattle.lq_model.specs.Catalogue.{Catalogue, Table, View, table_of, the_table}
-use Rattle.lq_model.specs.Names.{is_empty, is_in, repeats, same_names}
-use Rattle.lq_model.specs.ResultTests.{misses_target}
+use Rattle.lq_model.specs.Catalogue.{Catalogue, Table, View, table_of, the_table, is_empty, is_in, repeats, same_names, column_lists, column_names, has_column, target_lists}
+use Rattle.lq_model.specs.Plan.{misses_target}
 use Rattle.lq_model.specs.Sound.{IsSound, IsSoundTable, are_columns, is_view}
-use Rattle.lq_model.specs.TableNames.{column_lists, column_names, has_column, target_lists}
 use Rattle.lq_model.specs.Truth.{names_in}
 use Rattle.lq_model.specs.declared.constraint.ForeignKey.{ForeignKey}
 use Rattle.lq_model.proofs.Lists.{and_left, and_right, any-append, any_less, any_none, not_false, or_false, or_left, or_right, same_name, true_false, whether}

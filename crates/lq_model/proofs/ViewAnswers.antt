@@ -5,15 +5,12 @@ use Rattle.std.specs.Prelude.{Bool, IsOk, List, None, Option, Some, false, is_no
 use Rattle.lq_base.specs.declared.name.Name.{Name}
 use Rattle.lq_base.specs.declared.reason.Reason.{Reason}
 use Rattle.lq_base.specs.declared.reason.Reason.TheVariants.{Missing, Reserved, WrongKind}
-use Rattle.lq_model.specs.Catalogue.{Catalogue, Table, View, table_of}
+use Rattle.lq_model.specs.Catalogue.{Catalogue, Table, View, table_of, is_empty, is_in, column_names}
 use Rattle.lq_model.specs.Comparison.{compares_wrongly}
-use Rattle.lq_model.specs.Names.{is_empty, is_in}
-use Rattle.lq_model.specs.Query.{Source, answer, answer_from, lacks_column, listed, no_source, source_of}
-use Rattle.lq_model.specs.Reasons.{unless}
+use Rattle.lq_model.specs.Views.{Source, answer, answer_from, lacks_column, listed, no_source, source_of, ViewsAnswer}
+use Rattle.lq_model.specs.Plan.{unless}
 use Rattle.lq_model.specs.Sound.{is_view, wanted_names}
-use Rattle.lq_model.specs.TableNames.{column_names}
 use Rattle.lq_model.specs.Truth.{names_in}
-use Rattle.lq_model.specs.ViewsAnswer.{ViewsAnswer}
 use Rattle.lq_model.specs.declared.caller.By.TheVariants.{Program}
 use Rattle.lq_model.specs.declared.query.Query.{Query}
 use Rattle.lq_model.specs.declared.query.Wanted.{Wanted}

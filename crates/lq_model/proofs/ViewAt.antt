@@ -2,12 +2,9 @@
 use Rattle.std.specs.List.{list_all}
 use Rattle.std.specs.Option.{unwrap_or}
 use Rattle.std.specs.Prelude.{Bool, Option, is_some, not, refl, ◌&&◌, ◌≡◌}
-use Rattle.lq_model.specs.Catalogue.{Catalogue, Table, View, no_table, table_of}
-use Rattle.lq_model.specs.Comparison.{compares_wrongly}
-use Rattle.lq_model.specs.Names.{is_in, same_names}
+use Rattle.lq_model.specs.Catalogue.{Catalogue, Table, View, no_table, table_of, is_in, same_names, column_names}
+use Rattle.lq_model.specs.Comparison.{compares_wrongly, is_spelled}
 use Rattle.lq_model.specs.Sound.{are_columns, is_view, wanted_names}
-use Rattle.lq_model.specs.Spelled.{is_spelled}
-use Rattle.lq_model.specs.TableNames.{column_names}
 use Rattle.lq_model.specs.Truth.{names_in}
 
 -- what a catalogue asks of a view, of what stands at its table's name

@@ -9,19 +9,14 @@ use Rattle.std.specs.Prelude.{Bool, List, None, Ok, Option, Some, [], cond, fals
 use Rattle.lq_base.specs.Name.{is_name, is_named, is_object, name_cmp}
 use Rattle.lq_base.specs.declared.dialect.Dialect.{Dialect}
 use Rattle.lq_base.specs.declared.name.Name.{Name}
-use Rattle.lq_model.specs.Catalogue.{Catalogue, Sequence, Table, View, table_of, the_table, view_of, with_view, without_view}
-use Rattle.lq_model.specs.NameSpaces.{AreApart, is_taken, object_names}
-use Rattle.lq_model.specs.Names.{is_empty, repeats, same_names, times}
-use Rattle.lq_model.specs.Query.{listed}
-use Rattle.lq_model.specs.Rename.{rename_view, view_renamed}
-use Rattle.lq_model.specs.Reserved.{is_reserved, is_tracking, takes_lock_key}
+use Rattle.lq_model.specs.Catalogue.{Catalogue, Sequence, Table, View, table_of, the_table, view_of, with_view, without_view, is_empty, repeats, same_names, times, column_missing, has_column}
+use Rattle.lq_model.specs.NameSpaces.{AreApart, is_taken, object_names, is_reserved, is_tracking, takes_lock_key}
+use Rattle.lq_model.specs.Views.{listed, create_view, drop_view, is_count, new_view}
+use Rattle.lq_model.specs.Tables.{rename_view, view_renamed}
 use Rattle.lq_model.specs.Sound.{IsSound, IsSoundTable, are_columns, is_view, may_name}
-use Rattle.lq_model.specs.Statement.{is_query, is_wanted}
-use Rattle.lq_model.specs.Step.{step}
-use Rattle.lq_model.specs.TableNames.{column_missing, has_column}
+use Rattle.lq_model.specs.Step.{is_query, is_wanted, step}
 use Rattle.lq_model.specs.TakesBack.{no_view_yet}
 use Rattle.lq_model.specs.Truth.{names_in}
-use Rattle.lq_model.specs.Views.{create_view, drop_view, is_count, new_view}
 use Rattle.lq_model.specs.declared.caller.By.{By}
 use Rattle.lq_model.specs.declared.caller.By.TheVariants.{Program, User}
 use Rattle.lq_model.specs.declared.column.Column.{Column}

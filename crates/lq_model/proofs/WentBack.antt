@@ -3,7 +3,7 @@ use Rattle.std.proofs.Common.{ap, sym, ◌∙◌}
 use Rattle.std.proofs.Math.Seq.{take-append_seam}
 use Rattle.std.proofs.lemmas.List.{length-reverse, reverse-append, reverse-reverse}
 use Rattle.std.specs.Prelude.{List, length, reverse, take, ℕ, ◌++◌, ◌≡◌}
-use Rattle.lq_model.specs.Canon.{GoesOn, Writing}
+use Rattle.lq_model.specs.Changes.{GoesOn, Writing}
 use Rattle.lq_model.specs.declared.canon.Begun.{Begun}
 
 cut_front : {A : Type 0} (n : ℕ) (front more xs : List A) → xs ≡ front ++ more → n ≡ length front → take n xs ≡ front

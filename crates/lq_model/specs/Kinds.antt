@@ -1,11 +1,20 @@
 -- The kinds of columns.
-use Rattle.std.specs.Prelude.{Bool, List, None, Option, Some, [], cond, false, map, nat_eq, not, true, ◌&&◌, ◌∷◌}
+use Rattle.std.specs.Option.{option_map, unwrap_or}
+use Rattle.std.specs.Prelude.{Bool, Err, List, None, Ok, Option, Result, Some, [], cond, false, map, nat_eq, not, true, ◌&&◌, ◌∷◌}
 use Rattle.lq_base.specs.Name.{is_named}
+use Rattle.lq_base.specs.Value.{into_kind}
 use Rattle.lq_base.specs.declared.kind.Kind.{Kind}
 use Rattle.lq_base.specs.declared.kind.Kind.TheVariants as kind
+use Rattle.lq_base.specs.declared.literal.Literal.{Literal}
+use Rattle.lq_base.specs.declared.literal.Literal.TheVariants as literal
 use Rattle.lq_base.specs.declared.name.Name.{Name}
+use Rattle.lq_base.specs.declared.reason.Reason.{Reason}
+use Rattle.lq_base.specs.declared.reason.Reason.TheVariants as reason
+use Rattle.lq_base.specs.declared.value.Value.{Value}
+use Rattle.lq_base.specs.declared.value.Value.TheVariants as value
 use Rattle.lq_model.specs.Catalogue.{Catalogue, Table, the_table}
 use Rattle.lq_model.specs.declared.column.Column.{Column}
+use Rattle.lq_model.specs.declared.column.ColumnDef.{ColumnDef}
 use Rattle.lq_model.specs.declared.constraint.ForeignKey.{ForeignKey}
 
 abbrev pub is_number : Kind → Bool
@@ -52,3 +61,34 @@ kinds_at it ns = map (λ n. kind_of n it.columns) ns
 -- whether a foreign key of a table and its targets differ in number or kinds
 abbrev pub kinds_differ : Catalogue → Table → ForeignKey → Bool
 kinds_differ c it f = not (same_kinds (kinds_at it f.columns) (kinds_at (the_table c f.table) f.targets))
+
+-- A literal that goes into a column.
+
+abbrev pub default_value : Column → Value
+default_value c = unwrap_or c.default value.Null
+
+abbrev pub is_wrong : Result Value Reason → Bool
+is_wrong (Err reason.WrongKind) = true
+is_wrong _ = false
+
+abbrev pub is_wide : Result Value Reason → Bool
+is_wide (Err reason.TooWide) = true
+is_wide _ = false
+
+abbrev pub value_in : Result Value Reason → Value
+value_in (Ok v) = v
+value_in (Err _) = value.Null
+
+-- the default that a column states, and null where it states none
+abbrev pub literal_of : ColumnDef → Literal
+literal_of d = unwrap_or d.default literal.Null
+
+-- the column that is made of what a statement says: its default becomes a value of its kind
+abbrev pub column_of : ColumnDef → Column
+column_of d = record {
+  name = d.name;
+  kind = d.kind;
+  nullable = d.nullable;
+  default = option_map (λ l. value_in (into_kind l d.kind)) d.default;
+  numbered = d.numbered;
+}

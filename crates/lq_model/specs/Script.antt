@@ -1,5 +1,5 @@
 -- The writing calls of a command that runs alone, and what they leave in the journal.
-use Rattle.std.specs.Prelude.{List, [], filter, map, ◌++◌, ◌∷◌, Bool, true, false}
+use Rattle.std.specs.Prelude.{Bool, List, [], false, filter, map, true, ◌++◌, ◌∷◌}
 use Rattle.lq_model.specs.declared.caller.By.{By}
 use Rattle.lq_model.specs.declared.caller.By.TheVariants.{Program, User}
 use Rattle.lq_model.specs.declared.caller.Room.{Room}

@@ -1,26 +1,23 @@
 -- What a sound catalogue is.
-use Rattle.std.specs.List.{list_all, list_any}
+use Rattle.std.specs.List.{flat_map, list_all, list_any}
 use Rattle.std.specs.List.Sorted.{IsStrictlySortedBy}
 use Rattle.std.specs.Map.{keys_of}
 use Rattle.std.specs.Option.{unwrap_or}
 use Rattle.std.specs.Ordering.{int_eq}
-use Rattle.std.specs.Prelude.{Bool, List, Option, Some, [], codes, false, is_none, is_some, not, pos, true, ◌&&◌, ◌||◌, ◌∷◌, ◌≡◌}
+use Rattle.std.specs.Prelude.{Bool, List, Option, Some, [], codes, false, if◌then◌else◌, is_none, is_some, length, nat_le, not, pos, suc, take, true, zero, ℕ, ◌&&◌, ◌++◌, ◌==◌, ◌||◌, ◌∷◌, ◌≡◌}
+use Rattle.std.specs.Str.{is_utf8}
 use Rattle.lq_base.specs.Kind.{is_kind}
-use Rattle.lq_base.specs.Name.{is_elsewhere, is_named, name_cmp}
+use Rattle.lq_base.specs.Name.{is_elsewhere, is_name, is_name_key, is_named, name_cmp, text_of}
 use Rattle.lq_base.specs.Value.{is_value_of}
 use Rattle.lq_base.specs.declared.dialect.Dialect.{Dialect}
 use Rattle.lq_base.specs.declared.dialect.Dialect.TheVariants.{Mysql, Postgresql}
 use Rattle.lq_base.specs.declared.name.Name.{Name}
 use Rattle.lq_base.specs.declared.value.Value.TheVariants as value
-use Rattle.lq_model.specs.Catalogue.{Catalogue, Sequence, Table, View, table_of, the_table}
-use Rattle.lq_model.specs.Comparison.{compares_wrongly}
+use Rattle.lq_model.specs.Catalogue.{Catalogue, Sequence, Table, View, column_lists, column_names, is_empty, is_in, key_list, own_names, repeats, row_fits, same_names, table_of, the_table}
+use Rattle.lq_model.specs.Comparison.{compares_wrongly, is_spelled}
 use Rattle.lq_model.specs.Kinds.{is_number, kinds_differ}
 use Rattle.lq_model.specs.NameSpaces.{AreApart, AreApartWithin, object_names}
-use Rattle.lq_model.specs.Names.{is_empty, is_in, repeats, same_names}
-use Rattle.lq_model.specs.ResultTests.{has_null, has_orphans, has_twins, is_loose, is_overfull}
-use Rattle.lq_model.specs.Row.{row_fits}
-use Rattle.lq_model.specs.Spelled.{is_spelled}
-use Rattle.lq_model.specs.TableNames.{column_lists, column_names, key_list, own_names}
+use Rattle.lq_model.specs.Plan.{has_null, has_orphans, has_twins, is_loose, is_overfull}
 use Rattle.lq_model.specs.Truth.{names_in}
 use Rattle.lq_model.specs.declared.column.Column.{Column}
 use Rattle.lq_model.specs.declared.constraint.Key.{Key}
@@ -123,3 +120,43 @@ pub record IsSound (d : Dialect) (c : Catalogue) : Type 0 where
   pub parents : has_orphans c ≡ false
   -- at most 100,000 rows in a table
   pub small : is_overfull c ≡ false
+
+-- The names of constraints and indexes that are not named.
+
+-- the longest text of whole characters at the front, of at most so many bytes
+unfoldable pub cut : ℕ → List ℕ → List ℕ
+cut zero bytes = []
+cut (suc most) bytes = if is_utf8 (take (suc most) bytes) then take (suc most) bytes else cut most bytes
+
+-- two small letters and `_`
+abbrev pub is_prefix : List ℕ → Bool
+is_prefix bytes = length bytes == 3 && list_all (λ byte. nat_le 95 byte && nat_le byte 122) bytes
+
+-- `PREFIX_TABLE`, with one `_COLUMN` for each column
+abbrev pub default_name : List ℕ → Name → List Name → Name
+default_name prefix table columns = cut 63 (prefix ++ text_of table ++ flat_map (λ column. codes "_" ++ text_of column) columns)
+
+-- a primary key's
+unfoldable pub key_name : Dialect → Name → Name
+key_name Postgresql table = default_name (codes "pk_") table []
+key_name Mysql table = primary
+
+-- a unique constraint's
+unfoldable pub unique_name : Name → List Name → Name
+unique_name table columns = default_name (codes "uq_") table columns
+
+-- a foreign key's
+unfoldable pub foreign_name : Name → List Name → Name
+foreign_name table columns = default_name (codes "fk_") table columns
+
+-- an index's
+unfoldable pub index_name : Name → List Name → Name
+index_name table columns = default_name (codes "ix_") table columns
+
+-- each of them is a name in `public` where the table's and the columns' are
+abbrev pub DefaultNamesAreNames : Type 0
+DefaultNamesAreNames = (d : Dialect) (table : Name) (columns : List Name) → is_name_key table ≡ true → list_all is_name columns ≡ true
+    → (is_name (key_name d table) ≡ true)
+    × (is_name (unique_name table columns) ≡ true)
+    × (is_name (foreign_name table columns) ≡ true)
+    × (is_name (index_name table columns) ≡ true)

@@ -1,15 +1,15 @@
 -- The grammar of ALTER.
-use Rattle.std.specs.Prelude.{true, false, if◌then◌else◌}
+use Rattle.std.specs.Prelude.{None, Some, false, if◌then◌else◌, true}
 use Rattle.lq_base.specs.Name.{beside, text_of}
 use Rattle.lq_base.specs.declared.dialect.Dialect.{Dialect}
-use Rattle.lq_base.specs.declared.dialect.Dialect.TheVariants.{Postgresql, Mysql}
+use Rattle.lq_base.specs.declared.dialect.Dialect.TheVariants.{Mysql, Postgresql}
 use Rattle.lq_base.specs.declared.name.Name.{Name}
-use Rattle.lq_model.specs.SqlColumn.{added_column}
 use Rattle.lq_model.specs.SqlConstraint.{begins_constraint, table_constraint}
-use Rattle.lq_model.specs.SqlParser.{Parser, ◌>>=◌, ◌>>◌, pure, refuse, peek, skip, eat, expect}
-use Rattle.lq_model.specs.SqlPart.{name, object, literal, column_kind}
+use Rattle.lq_model.specs.SqlParser.{Parser, eat, expect, peek, pure, refuse, skip, ◌>>=◌, ◌>>◌}
+use Rattle.lq_model.specs.SqlPart.{column_kind, literal, name, object}
+use Rattle.lq_model.specs.SqlTable.{added_column}
 use Rattle.lq_model.specs.declared.statement.Statement.{Statement}
-use Rattle.lq_model.specs.declared.statement.Statement.TheVariants.{AddColumn, AddForeignKey, AddPrimaryKey, AddUnique, DropColumn, DropConstraint, DropDefault, DropForeignKey, DropNotNull, DropPrimaryKey, DropUnique, Modify, RenameColumn, RenameSequence, RenameTable, RenameView, SetDefault, SetNotNull}
+use Rattle.lq_model.specs.declared.statement.Statement.TheVariants.{AddColumn, AddForeignKey, AddPrimaryKey, AddUnique, DropColumn, DropConstraint, DropDefault, DropForeignKey, DropIndex, DropNotNull, DropPrimaryKey, DropSequence, DropTable, DropUnique, DropView, Modify, RenameColumn, RenameSequence, RenameTable, RenameView, SetDefault, SetNotNull}
 use Rattle.lq_model.specs.declared.table_item.TableConstraint.{TableConstraint}
 use Rattle.lq_model.specs.declared.table_item.TableConstraint.TheVariants as constraint
 use Rattle.lq_model.specs.declared.word.WordKind.{WordKind}
@@ -156,3 +156,33 @@ alter_by d _ = refuse
 
 unfoldable pub alter : Dialect → Parser Statement
 alter d = peek >>= alter_by d
+
+-- The grammar of DROP, and of mysql's RENAME TABLE.
+
+-- `q`, in mysql `q ON q`
+unfoldable pub drop_index : Dialect → Parser Statement
+drop_index Postgresql = do
+  index ← object Postgresql
+  pure (DropIndex index None)
+drop_index Mysql = do
+  index ← name
+  expect word.On
+  table ← name
+  pure (DropIndex index (Some table))
+
+abbrev pub drop_object_by : Dialect → WordKind → Parser Statement
+drop_object_by d word.Table = skip >> (do table ← object d; pure (DropTable table))
+drop_object_by d word.Index = skip >> drop_index d
+drop_object_by d word.View = skip >> (do view ← object d; pure (DropView view))
+drop_object_by Postgresql word.Sequence = skip >> (do sequence ← object Postgresql; pure (DropSequence sequence))
+drop_object_by d _ = refuse
+
+unfoldable pub drop_object : Dialect → Parser Statement
+drop_object d = peek >>= drop_object_by d
+
+-- `TABLE q TO q`
+unfoldable pub rename_table : Parser Statement
+rename_table = do
+  expect word.Table
+  table ← name
+  rename_table_to table

@@ -1,10 +1,10 @@
 -- The grammar of the constraints that stand apart from the columns.
-use Rattle.std.specs.Prelude.{Bool, true, false, if◌then◌else◌, Option, Some, None}
+use Rattle.std.specs.Prelude.{Bool, None, Option, Some, false, if◌then◌else◌, true}
 use Rattle.lq_base.specs.declared.dialect.Dialect.{Dialect}
-use Rattle.lq_base.specs.declared.dialect.Dialect.TheVariants.{Postgresql, Mysql}
+use Rattle.lq_base.specs.declared.dialect.Dialect.TheVariants.{Mysql, Postgresql}
 use Rattle.lq_base.specs.declared.name.Name.{Name}
-use Rattle.lq_model.specs.DefaultName.{key_name, unique_name, foreign_name}
-use Rattle.lq_model.specs.SqlParser.{Parser, ◌>>=◌, ◌>>◌, pure, refuse, given, peek, skip, eat, expect, enclosed}
+use Rattle.lq_model.specs.Sound.{foreign_name, key_name, unique_name}
+use Rattle.lq_model.specs.SqlParser.{Parser, eat, enclosed, expect, given, peek, pure, refuse, skip, ◌>>=◌, ◌>>◌}
 use Rattle.lq_model.specs.SqlPart.{name, name_of, object}
 use Rattle.lq_model.specs.declared.constraint.ForeignKey.{ForeignKey}
 use Rattle.lq_model.specs.declared.constraint.Key.{Key}

@@ -1,10 +1,26 @@
--- What the rules of the grammar are made of. A parser takes words from the front of some, or refuses them.
-use Rattle.std.specs.Prelude.{ℕ, zero, suc, Bool, if◌then◌else◌, List, [], ◌∷◌, length, Option, Some, None}
+-- How what reads SQL text answers: as its definition says, unless memory ran out.
+use Rattle.std.specs.Prelude.{Bool, Err, List, None, Ok, Option, Result, Some, [], if◌then◌else◌, length, suc, zero, ℕ, ◌∷◌, ◌≡◌}
 use denote.Enum.Bare.{sameb}
 use Rattle.lq_model.specs.contracts.word.WordKind.{the_type}
+use Rattle.lq_model.specs.declared.fault.ParseFault.{ParseFault}
+use Rattle.lq_model.specs.declared.fault.ParseFault.TheVariants.{NotSql, OutOfMemory}
 use Rattle.lq_model.specs.declared.word.Word.{Word}
 use Rattle.lq_model.specs.declared.word.WordKind.{WordKind}
 use Rattle.lq_model.specs.declared.word.WordKind.TheVariants as word
+
+-- what there is, and NotSql exactly where there is nothing
+abbrev pub Gives : {A : Type 0} → Option A → Result A ParseFault → Type 0
+Gives meant (Ok a) = meant ≡ Some a
+Gives meant (Err NotSql) = meant ≡ None
+Gives meant (Err OutOfMemory) = Unit {0}
+
+-- the same of a parser, with what it leaves of the words
+abbrev pub Reads : {A S : Type 0} → Option (A × S) → Result A ParseFault → S → Type 0
+Reads meant (Ok a) rest = meant ≡ Some (a, rest)
+Reads meant (Err NotSql) rest = meant ≡ None
+Reads meant (Err OutOfMemory) rest = Unit {0}
+
+-- What the rules of the grammar are made of. A parser takes words from the front of some, or refuses them.
 
 -- what was read, and the words after it
 abbrev pub Outcome : Type 0 → Type 0

@@ -1,18 +1,18 @@
 -- The parts that statements, queries and tests share: names, literals and kinds.
-use Rattle.std.specs.Prelude.{ℕ, Bool, true, false, ◌&&◌, if◌then◌else◌, List, Option, Some, None}
 use Rattle.std.specs.List.{list_any}
+use Rattle.std.specs.Prelude.{Bool, List, None, Option, Some, false, if◌then◌else◌, true, ℕ, ◌&&◌}
 use Rattle.std.specs.Str.Parse.{digits_value, starts_with_minus}
-use Rattle.lq_base.specs.Kind.{plain_number, plain_kind, sized_kind, decimal_kind}
+use Rattle.lq_base.specs.Kind.{decimal_kind, plain_kind, plain_number, sized_kind}
 use Rattle.lq_base.specs.Name.{is_name, within}
 use Rattle.lq_base.specs.Number.{is_digits, is_dot, number_of, signed, without_minus}
 use Rattle.lq_base.specs.declared.dialect.Dialect.{Dialect}
-use Rattle.lq_base.specs.declared.dialect.Dialect.TheVariants.{Postgresql, Mysql}
+use Rattle.lq_base.specs.declared.dialect.Dialect.TheVariants.{Mysql, Postgresql}
 use Rattle.lq_base.specs.declared.kind.Kind.{Kind}
 use Rattle.lq_base.specs.declared.literal.Literal.{Literal}
 use Rattle.lq_base.specs.declared.literal.Literal.TheVariants as constant
 use Rattle.lq_base.specs.declared.name.Name.{Name}
-use Rattle.lq_model.specs.Spelled.{is_literal}
-use Rattle.lq_model.specs.SqlParser.{Parser, ◌>>=◌, ◌>>◌, pure, refuse, given, same_kind, peek, skip, taken, eat, expect}
+use Rattle.lq_model.specs.Comparison.{is_literal}
+use Rattle.lq_model.specs.SqlParser.{Parser, eat, expect, given, peek, pure, refuse, same_kind, skip, taken, ◌>>=◌, ◌>>◌}
 use Rattle.lq_model.specs.SqlWord.{may_be_name}
 use Rattle.lq_model.specs.declared.word.WordKind.{WordKind}
 use Rattle.lq_model.specs.declared.word.WordKind.TheVariants as word

@@ -1,6 +1,7 @@
 -- The grammar of queries.
-use Rattle.std.specs.Prelude.{Bool, ◌&&◌, if◌then◌else◌, List, Some}
-use Rattle.lq_model.specs.SqlParser.{Parser, ◌>>=◌, ◌>>◌, pure, next, sees, eat, expect, separated}
+use Rattle.std.specs.Prelude.{Bool, List, Some, if◌then◌else◌, ◌&&◌}
+use Rattle.lq_base.specs.declared.dialect.Dialect.{Dialect}
+use Rattle.lq_model.specs.SqlParser.{Parser, eat, expect, next, pure, sees, separated, ◌>>=◌, ◌>>◌}
 use Rattle.lq_model.specs.SqlPart.{name, object}
 use Rattle.lq_model.specs.SqlTest.{where_test}
 use Rattle.lq_model.specs.declared.query.Query.{Query}
@@ -8,7 +9,6 @@ use Rattle.lq_model.specs.declared.query.Wanted.{Wanted}
 use Rattle.lq_model.specs.declared.query.Wanted.TheVariants as wanted
 use Rattle.lq_model.specs.declared.word.Word.{Word}
 use Rattle.lq_model.specs.declared.word.WordKind.TheVariants as word
-use Rattle.lq_base.specs.declared.dialect.Dialect.{Dialect}
 
 -- COUNT is the count exactly where `(` follows it
 unfoldable pub sees_count : List Word → Bool

@@ -1,14 +1,14 @@
 -- The grammar of INSERT, UPDATE and DELETE.
-use Rattle.std.specs.Prelude.{if◌then◌else◌, List, []}
+use Rattle.std.specs.Prelude.{List, [], if◌then◌else◌}
+use Rattle.lq_base.specs.declared.dialect.Dialect.{Dialect}
 use Rattle.lq_base.specs.declared.literal.Literal.{Literal}
 use Rattle.lq_base.specs.declared.name.Name.{Name}
-use Rattle.lq_model.specs.SqlParser.{Parser, ◌>>=◌, ◌>>◌, pure, peek, same_kind, expect, enclosed, separated}
+use Rattle.lq_model.specs.SqlParser.{Parser, enclosed, expect, peek, pure, same_kind, separated, ◌>>=◌, ◌>>◌}
 use Rattle.lq_model.specs.SqlPart.{literal, name, object}
 use Rattle.lq_model.specs.SqlTest.{where_test}
 use Rattle.lq_model.specs.declared.statement.Statement.{Statement}
 use Rattle.lq_model.specs.declared.statement.Statement.TheVariants.{Delete, Insert, Update}
 use Rattle.lq_model.specs.declared.word.WordKind.TheVariants as word
-use Rattle.lq_base.specs.declared.dialect.Dialect.{Dialect}
 
 -- the columns that get values: `(c)`, or all of the table's
 unfoldable pub stated_columns : Parser (List Name)

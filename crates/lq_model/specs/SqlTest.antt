@@ -1,9 +1,9 @@
 -- The grammar of tests: NOT binds tighter than AND, and AND tighter than OR, both to the left.
-use Rattle.std.specs.Prelude.{ℕ, zero, suc, Bool, true, false, if◌then◌else◌, nat_le, [], ◌∷◌, Option, Some, None}
 use Rattle.std.specs.List.{fold}
-use Rattle.lq_model.specs.Spelled.{levels}
-use Rattle.lq_model.specs.SqlParser.{Parser, and_then, ◌>>=◌, ◌>>◌, pure, refuse, same_kind, peek, skip, eat, expect, many, led_by}
-use Rattle.lq_model.specs.SqlPart.{name, literal}
+use Rattle.std.specs.Prelude.{Bool, None, Option, Some, [], false, if◌then◌else◌, nat_le, suc, true, zero, ℕ, ◌∷◌}
+use Rattle.lq_model.specs.Comparison.{levels}
+use Rattle.lq_model.specs.SqlParser.{Parser, and_then, eat, expect, led_by, many, peek, pure, refuse, same_kind, skip, ◌>>=◌, ◌>>◌}
+use Rattle.lq_model.specs.SqlPart.{literal, name}
 use Rattle.lq_model.specs.declared.test.Op.{Op}
 use Rattle.lq_model.specs.declared.test.Op.TheVariants as op
 use Rattle.lq_model.specs.declared.test.Operand.{Operand}

@@ -1,13 +1,13 @@
 -- What an SQL text means: the one statement, query or test that is spelled so, or none.
-use Rattle.std.specs.Prelude.{◌≡◌, ℕ, List, Option, Some, None, true}
 use Rattle.std.specs.Option.{option_and_then}
+use Rattle.std.specs.Prelude.{List, None, Option, Some, true, ℕ, ◌≡◌}
 use Rattle.lq_base.specs.declared.dialect.Dialect.{Dialect}
 use Rattle.lq_model.specs.SqlParser.{Outcome, Parser, to_end}
 use Rattle.lq_model.specs.SqlQuery.{query}
 use Rattle.lq_model.specs.SqlStatement.{statement}
 use Rattle.lq_model.specs.SqlTest.{any_test}
 use Rattle.lq_model.specs.SqlWord.{words}
-use Rattle.lq_model.specs.Statement.{is_query, is_statement, is_where}
+use Rattle.lq_model.specs.Step.{is_query, is_statement, is_where}
 use Rattle.lq_model.specs.declared.query.Query.{Query}
 use Rattle.lq_model.specs.declared.statement.Statement.{Statement}
 use Rattle.lq_model.specs.declared.test.Test.{Test}

@@ -1,13 +1,11 @@
 -- The words of an SQL text: its lexemes without blanks and comments, each as what it means.
-use Rattle.std.specs.Prelude.{ℕ, ◌==◌, ◌||◌, Bool, true, false, if◌then◌else◌, List, [], ◌∷◌, ◌++◌, map, drop, slice_index, Option, option_map}
 use Rattle.std.specs.Char.{to_ascii_lowercase}
 use Rattle.std.specs.List.{flat_map}
+use Rattle.std.specs.Prelude.{Bool, List, Option, [], drop, false, if◌then◌else◌, map, option_map, slice_index, true, ℕ, ◌++◌, ◌==◌, ◌||◌, ◌∷◌}
 use Rattle.std.specs.Str.{str_eq_ignore_ascii_case}
-use Rattle.lq_base.specs.SqlByte.{escapes}
-use Rattle.lq_base.specs.SqlLexeme.{lexemes}
-use Rattle.lq_base.specs.SqlQuoted.{is_pair}
+use Rattle.lq_base.specs.Sql.{escapes, is_pair, lexemes}
 use Rattle.lq_base.specs.declared.dialect.Dialect.{Dialect}
-use Rattle.lq_base.specs.declared.dialect.Dialect.TheVariants.{Postgresql, Mysql}
+use Rattle.lq_base.specs.declared.dialect.Dialect.TheVariants.{Mysql, Postgresql}
 use Rattle.lq_base.specs.declared.lexeme.LexemeSort.{LexemeSort}
 use Rattle.lq_base.specs.declared.lexeme.LexemeSort.TheVariants as sort
 use Rattle.lq_model.specs.declared.word.TheConstants.{SPELLINGS}

@@ -1,14 +1,12 @@
 -- The canonical text of each statement.
-use Rattle.std.specs.Prelude.{ℕ, Bool, true, false, List, [], ◌∷◌, ◌++◌, map, Option, Some, None, if◌then◌else◌, not}
-use Rattle.lq_base.specs.declared.dialect.Dialect.{Dialect}
-use Rattle.lq_base.specs.declared.dialect.Dialect.TheVariants.{Postgresql, Mysql}
-use Rattle.lq_base.specs.declared.literal.Literal.{Literal}
+use Rattle.std.specs.Prelude.{Bool, List, None, Option, Some, [], false, if◌then◌else◌, map, not, true, ℕ, ◌++◌, ◌∷◌}
 use Rattle.lq_base.specs.Kind.{kind_text}
 use Rattle.lq_base.specs.Name as name
 use Rattle.lq_base.specs.Number.{whole_text}
-use Rattle.lq_model.specs.Phrase.{words}
-use Rattle.lq_model.specs.Quoting.{name_text, quoted_text}
-use Rattle.lq_model.specs.TestText.{after_commas, listed, literal_text, names_text, query_text, where_text}
+use Rattle.lq_base.specs.declared.dialect.Dialect.{Dialect}
+use Rattle.lq_base.specs.declared.dialect.Dialect.TheVariants.{Mysql, Postgresql}
+use Rattle.lq_base.specs.declared.literal.Literal.{Literal}
+use Rattle.lq_model.specs.TestText.{after_commas, listed, literal_text, name_text, names_text, query_text, quoted_text, where_text, words}
 use Rattle.lq_model.specs.declared.column.ColumnDef.{ColumnDef}
 use Rattle.lq_model.specs.declared.constraint.ForeignKey.{ForeignKey}
 use Rattle.lq_model.specs.declared.constraint.Key.{Key}

@@ -1,25 +1,26 @@
 -- What takes a statement back.
 use Rattle.std.specs.List.{list_all}
-use Rattle.std.specs.Prelude.{Bool, List, None, Ok, Option, Some, [], false, is_none, not, true, ℕ, ℤ, ◌&&◌, ◌||◌, ◌∷◌, ◌≡◌}
-use Rattle.lq_base.specs.Name.{beside, is_beside, is_named}
+use Rattle.std.specs.Prelude.{Bool, List, None, Ok, Option, Some, [], false, if◌then◌else◌, is_none, not, suc, true, zero, ℕ, ℤ, ◌&&◌, ◌||◌, ◌∷◌, ◌≡◌}
+use Rattle.lq_base.specs.Name.{beside, is_beside, is_elsewhere, is_named, schema_of}
 use Rattle.lq_base.specs.declared.dialect.Dialect.{Dialect}
 use Rattle.lq_base.specs.declared.dialect.Dialect.TheVariants.{Mysql, Postgresql}
 use Rattle.lq_base.specs.declared.kind.Kind.{Kind}
 use Rattle.lq_base.specs.declared.literal.Literal.{Literal}
 use Rattle.lq_base.specs.declared.name.Name.{Name}
-use Rattle.lq_model.specs.Catalogue.{Catalogue, the_table, view_of}
+use Rattle.lq_model.specs.Catalogue.{Catalogue, IsWidened, is_in, the_table, view_of}
+use Rattle.lq_model.specs.Changes.{CanonicalChange, CanonicalPairs, CanonicalValue, CanonicalValues, decimal_value, kind_value, list, map_of, no_pairs, no_values, number, pair, text, truth, value}
 use Rattle.lq_model.specs.Kinds.{equal_kinds}
-use Rattle.lq_model.specs.Names.{is_in}
-use Rattle.lq_model.specs.Reserved.{is_reserved}
+use Rattle.lq_model.specs.NameSpaces.{is_reserved}
 use Rattle.lq_model.specs.Sound.{IsSound}
 use Rattle.lq_model.specs.Step.{step}
-use Rattle.lq_model.specs.Widened.{IsWidened}
 use Rattle.lq_model.specs.declared.caller.By.{By}
 use Rattle.lq_model.specs.declared.column.Column.{Column}
 use Rattle.lq_model.specs.declared.column.ColumnDef.{ColumnDef}
 use Rattle.lq_model.specs.declared.constraint.ForeignKey.{ForeignKey}
 use Rattle.lq_model.specs.declared.constraint.Key.{Key}
 use Rattle.lq_model.specs.declared.constraint.Unique.{Unique}
+use Rattle.lq_model.specs.declared.field.Field.{Field}
+use Rattle.lq_model.specs.declared.field.Field.TheVariants as field
 use Rattle.lq_model.specs.declared.index.Index.{Index}
 use Rattle.lq_model.specs.declared.query.Query.{Query}
 use Rattle.lq_model.specs.declared.statement.Statement.{Statement}
@@ -132,3 +133,54 @@ RenameViewTakesBack = (d : Dialect) (a b : Name) → TakesBack d (RenameView a b
 
 abbrev pub RenameSequenceTakesBack : Type 0
 RenameSequenceTakesBack = (d : Dialect) (a b : Name) → TakesBack d (RenameSequence a b) (RenameSequence b a)
+
+-- A change's keys in canonical text: those that were given, in the order of its type's table.
+
+-- a key, and its value where it was given
+abbrev pub Row : Type 0
+Row = List ℕ × Option CanonicalValue
+
+abbrev pub pair_if : List ℕ → Option CanonicalValue → CanonicalPairs → CanonicalPairs
+pair_if key None pairs = pairs
+pair_if key (Some v) pairs = pair key v pairs
+
+abbrev pub pairs_of : List Row → CanonicalPairs
+pairs_of [] = no_pairs
+pairs_of (row ∷ rows) = pair_if row.0 row.1 (pairs_of rows)
+
+-- the change of a type with these keys
+abbrev pub change_of : List ℕ → List Row → CanonicalChange
+change_of name rows = record { name = name; pairs = pairs_of rows }
+
+-- a map with these keys
+abbrev pub map_with : List Row → CanonicalValue
+map_with rows = map_of (pairs_of rows)
+
+-- each item as a map of its keys
+abbrev pub maps : {A : Type 0} → (A → List Row) → List A → CanonicalValues
+maps rows_of [] = no_values
+maps rows_of (a ∷ more) = value (map_with (rows_of a)) (maps rows_of more)
+
+abbrev pub texts : List (List ℕ) → CanonicalValues
+texts [] = no_values
+texts (t ∷ ts) = value (text t) (texts ts)
+
+abbrev pub field_value : Field → CanonicalValue
+field_value (field.Text t) = text t.now
+field_value (field.Name n) = text n.now
+field_value (field.Number n) = number n
+field_value (field.Decimal units scale) = decimal_value units scale
+field_value (field.Truth b) = truth b
+field_value (field.Kind k) = kind_value k
+field_value (field.Names ns) = list (texts ns.now)
+field_value (field.NamesOf ns) = list (texts ns.now)
+
+-- the schema of a name, which is stated where it is not `public`
+abbrev pub schema_row : Name → Option CanonicalValue
+schema_row n = if is_elsewhere n then Some (text (schema_of n)) else None
+
+-- the value of the key at a place of the table
+abbrev pub nth_value : ℕ → List Row → Option CanonicalValue
+nth_value n [] = None
+nth_value zero (row ∷ rows) = row.1
+nth_value (suc n) (row ∷ rows) = nth_value n rows

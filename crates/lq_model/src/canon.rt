@@ -1,5 +1,5 @@
 ghost use Rattle.std.specs.Prelude.{◌≡◌, ◌++◌, ◌∷◌, [], IfOk, OnOk, OnErr, Some, codes, length, string_bytes};
-ghost use Rattle.lq_model.specs.Canon.{GoesOn, Writing, atom, canonical, decimal_value, innermost, kind_value, number, numeral, signed_numeral, text, truth, without_innermost};
+ghost use Rattle.lq_model.specs.Changes.{GoesOn, Writing, atom, canonical, decimal_value, innermost, kind_value, number, numeral, signed_numeral, text, truth, without_innermost};
 ghost use Rattle.lq_model.specs.declared.canon.Begun.TheVariants as begun_of;
 
 use lq_base::{Dialect, Kind, NoMemory, Text, append_fixed};
@@ -39,7 +39,7 @@ pub struct Canon {
 
 impl Model for Canon {
     ghost use Rattle.std.specs.Prelude.{reverse};
-    ghost use Rattle.lq_model.specs.Canon.{Writing};
+    ghost use Rattle.lq_model.specs.Changes.{Writing};
 
     ghost Value = { Writing };
 

@@ -1,5 +1,5 @@
 ghost use Rattle.std.specs.Prelude.{◌≡◌, ◌++◌, List, ℕ};
-ghost use Rattle.lq_model.specs.Canon.{atom, canonical, canonical_change, canonical_changes, CanonicalChange, CanonicalValue};
+ghost use Rattle.lq_model.specs.Changes.{atom, canonical, canonical_change, canonical_changes, CanonicalChange, CanonicalValue};
 
 /// Where an atom ends is told from the atom alone: what begins with one begins with no other.
 pub fn atoms_are_read_one_way()

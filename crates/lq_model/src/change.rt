@@ -1,9 +1,8 @@
 ghost use Rattle.std.specs.Prelude.{◌≡◌, ◌++◌, Bool, IfOk, List, OnErr, OnOk, Option, Result, true};
 ghost use Rattle.lq_base.specs.declared.dialect.Dialect.{Dialect};
 ghost use Rattle.lq_base.specs.declared.reason.Reason.{Reason};
-ghost use Rattle.lq_model.specs.Canon.{CanonicalChange, canonical_change};
+ghost use Rattle.lq_model.specs.Changes.{CanonicalChange, canonical_change, AreReturns, AreStatements, AreTold, HaveEffect, TakeBack, undoing_of};
 ghost use Rattle.lq_model.specs.Catalogue.{Catalogue};
-ghost use Rattle.lq_model.specs.Changes.{AreReturns, AreStatements, AreTold, HaveEffect, TakeBack, undoing_of};
 ghost use Rattle.lq_model.specs.declared.statement.Statement.{Statement};
 
 use crate::canon::Canon;

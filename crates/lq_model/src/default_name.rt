@@ -1,9 +1,9 @@
 ghost use Rattle.std.specs.Prelude.{◌≡◌, ◌++◌, take, codes, true, false, IfOk, MatchOption, string_bytes};
 ghost use Rattle.std.specs.List.{flat_map};
 ghost use Rattle.std.specs.Str.{is_utf8};
-ghost use Rattle.lq_base.specs.Character.{has_control};
+ghost use Rattle.lq_base.specs.Number.{has_control};
 ghost use Rattle.lq_base.specs.Name.{IsName, text_of};
-ghost use Rattle.lq_model.specs.DefaultName as spec;
+ghost use Rattle.lq_model.specs.Sound as spec;
 
 use lq_base::{Dialect, Name, NameFault, NoMemory};
 use std::alloc::{AllocError, Global};

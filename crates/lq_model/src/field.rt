@@ -1,7 +1,7 @@
 ghost use Rattle.std.specs.Option.{option_map};
 ghost use Rattle.std.specs.Prelude.{◌≡◌};
-ghost use Rattle.lq_model.specs.Canon.{kind_value, text, truth};
-ghost use Rattle.lq_model.specs.Written.{field_value, schema_row};
+ghost use Rattle.lq_model.specs.Changes.{kind_value, text, truth};
+ghost use Rattle.lq_model.specs.TakesBack.{field_value, schema_row};
 
 use lq_base::{Items, Kind, Name, Text};
 

@@ -1,8 +1,7 @@
 ghost use Rattle.std.specs.Option.{option_copied};
 ghost use Rattle.std.specs.Prelude.{◌≡◌, false, is_some, length, option_map, unwrap_or};
-ghost use Rattle.lq_model.specs.Catalogue.{Catalogue, sequence_of, table_of, view_of};
-ghost use Rattle.lq_model.specs.Look.{IsAnswer, at_table, column_at, foreign_key_at, has_null_in, index_at, key_at, unique_at};
-ghost use Rattle.lq_model.specs.Query.{answer};
+ghost use Rattle.lq_model.specs.Catalogue.{Catalogue, sequence_of, table_of, view_of, IsAnswer, at_table, column_at, foreign_key_at, has_null_in, index_at, key_at, unique_at};
+ghost use Rattle.lq_model.specs.Views.{answer};
 
 use crate::caller::By;
 use crate::column::Column;

@@ -1,5 +1,5 @@
 ghost use Rattle.std.specs.Prelude.{◌≡◌};
-ghost use Rattle.lq_model.specs.Phrase.{words};
+ghost use Rattle.lq_model.specs.TestText.{words};
 
 /// The parts of a statement's text that are the same in each statement that has them.
 #[derive(Clone, Copy)]

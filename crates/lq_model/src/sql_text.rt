@@ -1,7 +1,7 @@
 ghost use Rattle.std.specs.Prelude.{◌≡◌, true, IfOk};
-ghost use Rattle.lq_model.specs.Reads.{Gives};
+ghost use Rattle.lq_model.specs.SqlParser.{Gives};
 ghost use Rattle.lq_model.specs.SqlText.{query_in, statement_in, test_in};
-ghost use Rattle.lq_model.specs.Statement.{is_statement};
+ghost use Rattle.lq_model.specs.Step.{is_statement};
 ghost use Rattle.lq_model.specs.StatementText.{text_of};
 
 use crate::fault::ParseFault;

@@ -1,5 +1,5 @@
 ghost use Rattle.std.specs.Prelude.{◌≡◌};
-ghost use Rattle.lq_model.specs.Commits.{commits_itself};
+ghost use Rattle.lq_model.specs.Step.{commits_itself};
 
 use crate::column::ColumnDef;
 use crate::constraint::{ForeignKey, Key, Unique};

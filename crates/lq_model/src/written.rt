@@ -1,7 +1,7 @@
 ghost use Rattle.std.specs.Option.{option_map};
 ghost use Rattle.std.specs.Prelude.{◌≡◌, ◌++◌, ◌∷◌, [], OnErr, OnOk, Some, map};
-ghost use Rattle.lq_model.specs.Canon.{GoesOn, canonical, canonical_change, canonical_pairs, canonical_values, list};
-ghost use Rattle.lq_model.specs.Written.{change_of, field_value, map_with, maps, pair_if, pairs_of, texts};
+ghost use Rattle.lq_model.specs.Changes.{GoesOn, canonical, canonical_change, canonical_pairs, canonical_values, list};
+ghost use Rattle.lq_model.specs.TakesBack.{change_of, field_value, map_with, maps, pair_if, pairs_of, texts};
 
 use crate::canon::Canon;
 use crate::field::{Field, name_field, text_field};
@@ -10,7 +10,7 @@ use lq_base::{Name, NoMemory, Text};
 /// Keys of a change or of a map in it, which canonical text has where they were given.
 pub trait Written {
     ghost use Rattle.std.specs.Prelude.{List};
-    ghost use Rattle.lq_model.specs.Written.{Row};
+    ghost use Rattle.lq_model.specs.TakesBack.{Row};
 
     /// Each key with its value, in the order of the type's table.
     ghost rows: { Self → List Row };
@@ -152,7 +152,7 @@ fn write_list<T: Written>(to: &mut Canon, items: &[T]) -> Result<(), NoMemory>
 impl Written for Fields<'_> {
     ghost use Rattle.std.specs.Option.{option_map};
     ghost use Rattle.std.specs.Prelude.{map};
-    ghost use Rattle.lq_model.specs.Written.{field_value};
+    ghost use Rattle.lq_model.specs.TakesBack.{field_value};
 
     ghost rows = { λ fields. map (λ row. (row.0.now, option_map field_value row.1)) fields.0.now };
 
@@ -164,7 +164,7 @@ impl Written for Fields<'_> {
 impl Written for TextAt<'_> {
     ghost use Rattle.std.specs.Option.{option_map};
     ghost use Rattle.std.specs.Prelude.{◌∷◌, []};
-    ghost use Rattle.lq_model.specs.Canon.{text};
+    ghost use Rattle.lq_model.specs.Changes.{text};
 
     ghost rows = { λ at. (at.key.now, option_map (λ t. text t) at.text.now) ∷ [] };
 
@@ -176,7 +176,7 @@ impl Written for TextAt<'_> {
 impl Written for NameAt<'_> {
     ghost use Rattle.std.specs.Option.{option_map};
     ghost use Rattle.std.specs.Prelude.{◌∷◌, []};
-    ghost use Rattle.lq_model.specs.Canon.{text};
+    ghost use Rattle.lq_model.specs.Changes.{text};
 
     ghost rows = { λ at. (at.key.now, option_map (λ t. text t) at.name.now) ∷ [] };
 
@@ -188,7 +188,7 @@ impl Written for NameAt<'_> {
 impl<T: Written> Written for MapAt<'_, T> {
     ghost use Rattle.std.specs.Option.{option_map};
     ghost use Rattle.std.specs.Prelude.{◌∷◌, []};
-    ghost use Rattle.lq_model.specs.Written.{map_with};
+    ghost use Rattle.lq_model.specs.TakesBack.{map_with};
 
     ghost rows = { λ at. (at.key.now, option_map (λ found. map_with (T.rows found)) at.map.now) ∷ [] };
 
@@ -203,8 +203,8 @@ impl<T: Written> Written for MapAt<'_, T> {
 
 impl<T: Written> Written for MapsAt<'_, T> {
     ghost use Rattle.std.specs.Prelude.{◌∷◌, [], Some};
-    ghost use Rattle.lq_model.specs.Canon.{list};
-    ghost use Rattle.lq_model.specs.Written.{maps};
+    ghost use Rattle.lq_model.specs.Changes.{list};
+    ghost use Rattle.lq_model.specs.TakesBack.{maps};
 
     ghost rows = { λ at. (at.key.now, Some (list (maps T.rows at.maps.now))) ∷ [] };
 

@@ -3,8 +3,7 @@ use Rattle.std.specs.List.{AllByRecursion, list_all}
 use Rattle.std.specs.Prelude.{Bool, List, true, ◌&&◌, ◌≡◌}
 use Rattle.lq_base.specs.Name.{is_name_key}
 use Rattle.lq_base.specs.declared.name.Name.{Name}
-use Rattle.lq_model.specs.Catalogue.{Catalogue, Sequence, Table, View}
-use Rattle.lq_model.specs.TableNames.{key_list}
+use Rattle.lq_model.specs.Catalogue.{Catalogue, Sequence, Table, View, key_list}
 use Rattle.lq_model.specs.declared.column.Column.{Column}
 use Rattle.lq_model.specs.declared.constraint.ForeignKey.{ForeignKey}
 use Rattle.lq_model.specs.declared.constraint.Key.{Key}

@@ -2,7 +2,7 @@ ghost use Rattle.std.specs.List.{AllByRecursion, list_all};
 ghost use Rattle.std.specs.Option.{option_copied};
 ghost use Rattle.std.specs.Prelude.{◌≡◌, ◌&&◌, true};
 ghost use Rattle.lq_base.specs.Name.{is_name_key};
-ghost use Rattle.lq_model.specs.TableNames.{key_list};
+ghost use Rattle.lq_model.specs.Catalogue.{key_list};
 ghost use Rattle.lq_named.specs.Named.{HasNames, TableHasNames, are_names, has_names};
 ghost use Rattle.lq_parts.specs.Steps.{tables_of};
 

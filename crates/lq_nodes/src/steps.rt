@@ -2,8 +2,7 @@
 ghost use Rattle.std.specs.Prelude.{◌≡◌, ℕ, ◌+◌, length, take, List, [], ◌∷◌, ◌++◌, Option, Some, None};
 ghost use Rattle.std.specs.Borrow.{sem};
 ghost use Rattle.std_alloc.specs.Box.{box_allocator};
-ghost use Rattle.lq_nodes.specs.Slots.{IsAt, with_node, without_node};
-ghost use Rattle.lq_nodes.specs.Lends.{lends_node};
+ghost use Rattle.lq_nodes.specs.Slots.{IsAt, with_node, without_node, lends_node};
 
 use crate::arena::{Arena, Held, Place};
 use std::alloc::Allocator;

@@ -1,7 +1,7 @@
 -- What is read of a node is a change of the dialect.
 use Rattle.lq_base.specs.declared.dialect.Dialect.{Dialect}
 use Rattle.lq_model.proofs.Lists.{and_true}
-use Rattle.lq_model.specs.Statement.{is_pg}
+use Rattle.lq_model.specs.Step.{is_pg}
 use Rattle.lq_tree.proofs.Says.{IsSo, Takes, anything, change_in_so, given, kind_so, name_so, required_so, required_unless_so, start}
 use Rattle.lq_tree.proofs.Schemas.{object_within}
 use Rattle.lq_nullable.specs.AddNotNull as add_not_null

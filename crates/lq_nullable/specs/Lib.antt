@@ -1,6 +1,4 @@
 pub mod AddNotNull
-pub mod AddNotNullLaws
-pub mod DropNotNull
-pub mod DropNotNullLaws
-pub mod Nullable
 pub mod NullableLaws
+pub mod DropNotNull
+pub mod Nullable

@@ -2,15 +2,15 @@
 use Rattle.std.specs.Option.{unwrap_or}
 use Rattle.std.specs.Prelude.{Bool, Option, if◌then◌else◌, is_some, not, ◌&&◌, ◌||◌}
 use Rattle.lq_base.specs.Kind.{is_kind}
-use Rattle.lq_base.specs.Options.{if_there}
+use Rattle.lq_base.specs.Number.{if_there}
 use Rattle.lq_base.specs.declared.dialect.Dialect.{Dialect}
 use Rattle.lq_base.specs.declared.dialect.Dialect.TheVariants.{Mysql, Postgresql}
 use Rattle.lq_base.specs.declared.kind.Kind.{Kind}
 use Rattle.lq_base.specs.declared.kind.Kind.TheVariants as kind
 use Rattle.lq_base.specs.declared.name.Name.{Name}
-use Rattle.lq_model.specs.ChangeColumn.{made_nullable, modified}
-use Rattle.lq_model.specs.Insert.{stated}
-use Rattle.lq_model.specs.Statement.{is_pg}
+use Rattle.lq_model.specs.Rows.{stated}
+use Rattle.lq_model.specs.Step.{is_pg}
+use Rattle.lq_model.specs.Tables.{made_nullable, modified}
 use Rattle.lq_model.specs.TakesBack.{is_plain_of}
 use Rattle.lq_model.specs.declared.column.Column.{Column}
 use Rattle.lq_model.specs.declared.statement.Statement.{Statement}

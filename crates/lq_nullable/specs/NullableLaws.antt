@@ -2,7 +2,7 @@
 use Rattle.std.specs.Prelude.{Bool, None, Ok, Option, Some, [], false, not, refl, true, ◌&&◌, ◌∷◌, ◌≡◌}
 use Rattle.lq_base.specs.Kind.{is_kind}
 use Rattle.lq_base.specs.Name.{is_name, is_object}
-use Rattle.lq_base.specs.Options.{if_there}
+use Rattle.lq_base.specs.Number.{if_there}
 use Rattle.lq_base.specs.declared.dialect.Dialect.{Dialect}
 use Rattle.lq_base.specs.declared.dialect.Dialect.TheVariants.{Mysql, Postgresql}
 use Rattle.lq_base.specs.declared.kind.Kind.{Kind}
@@ -12,13 +12,11 @@ use Rattle.lq_model.proofs.Effects.{one_back_where, one_becomes}
 use Rattle.lq_model.proofs.Lists.{and_left, and_true, true_false}
 use Rattle.lq_model.proofs.UndoChanges.{drop_not_null_after, set_not_null_after}
 use Rattle.lq_model.proofs.UndoModify.{modify_back}
-use Rattle.lq_model.specs.Catalogue.{Catalogue, the_table, with_table}
-use Rattle.lq_model.specs.ChangeColumn.{with_changed}
-use Rattle.lq_model.specs.Insert.{stated}
-use Rattle.lq_model.specs.Look.{column_at}
+use Rattle.lq_model.specs.Catalogue.{Catalogue, column_at, the_table, with_table}
+use Rattle.lq_model.specs.Rows.{stated}
 use Rattle.lq_model.specs.Sound.{IsSound}
-use Rattle.lq_model.specs.Statement.{is_statement}
-use Rattle.lq_model.specs.Step.{run}
+use Rattle.lq_model.specs.Step.{is_statement, run}
+use Rattle.lq_model.specs.Tables.{with_changed}
 use Rattle.lq_model.specs.TakesBack.{is_each}
 use Rattle.lq_model.specs.declared.caller.By.TheVariants.{User}
 use Rattle.lq_model.specs.declared.statement.Statement.TheVariants.{DropNotNull, Modify, SetNotNull}

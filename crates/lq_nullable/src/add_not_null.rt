@@ -1,6 +1,6 @@
 ghost use Rattle.std.specs.Prelude.{◌≡◌, ◌∷◌, [], IfOk, Some, true};
 ghost use Rattle.lq_base.specs.declared.literal.Literal.TheVariants as literal;
-ghost use Rattle.lq_tree.specs.Found.{Reads};
+ghost use Rattle.lq_tree.specs.Look.{Reads};
 ghost use Rattle.lq_nullable.specs.AddNotNull.{add_not_null, fills, gives, is_for, sets};
 
 use crate::nullable::{allowing, is_new, is_pg};
@@ -129,8 +129,7 @@ impl AddNotNullConstraint {
 }
 
 impl Change for AddNotNullConstraint {
-    ghost use Rattle.lq_nullable.specs.AddNotNull.{canonical_of, effect, gives, inverse, is_for, is_fresh};
-    ghost use Rattle.lq_nullable.specs.AddNotNullLaws.{does, restores, returned, spelled, told};
+    ghost use Rattle.lq_nullable.specs.AddNotNull.{canonical_of, effect, gives, inverse, is_for, is_fresh, does, restores, returned, spelled, told};
     ghost use Rattle.lq_nullable.specs.declared.add_not_null.AddNotNullConstraint.{AddNotNullConstraint};
 
     ghost Key = { AddNotNullConstraint };

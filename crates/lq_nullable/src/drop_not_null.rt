@@ -1,5 +1,5 @@
 ghost use Rattle.std.specs.Prelude.{◌≡◌, IfOk, true};
-ghost use Rattle.lq_tree.specs.Found.{Reads};
+ghost use Rattle.lq_tree.specs.Look.{Reads};
 ghost use Rattle.lq_nullable.specs.DropNotNull.{drop_not_null, is_for, sets};
 
 use crate::nullable::{allowing, is_new, is_pg};
@@ -70,8 +70,7 @@ impl DropNotNullConstraint {
 }
 
 impl Change for DropNotNullConstraint {
-    ghost use Rattle.lq_nullable.specs.DropNotNull.{canonical_of, effect, gives, inverse, is_for, is_fresh};
-    ghost use Rattle.lq_nullable.specs.DropNotNullLaws.{does, restores, returned, spelled, told};
+    ghost use Rattle.lq_nullable.specs.DropNotNull.{canonical_of, effect, gives, inverse, is_for, is_fresh, does, restores, returned, spelled, told};
     ghost use Rattle.lq_nullable.specs.declared.drop_not_null.DropNotNullConstraint.{DropNotNullConstraint};
 
     ghost Key = { DropNotNullConstraint };

@@ -1,6 +1,6 @@
 //! What the two change types share that set whether a column takes null.
 ghost use Rattle.std.specs.Prelude.{◌≡◌, IfOk};
-ghost use Rattle.lq_model.specs.Statement.{is_pg};
+ghost use Rattle.lq_model.specs.Step.{is_pg};
 ghost use Rattle.lq_model.specs.TakesBack.{is_plain_of};
 ghost use Rattle.lq_nullable.specs.Nullable.{allowing, is_new, is_turned, kind_stated};
 

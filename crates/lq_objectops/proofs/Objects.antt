@@ -11,10 +11,9 @@ use Rattle.lq_base.specs.declared.dialect.Dialect.{Dialect}
 use Rattle.lq_base.specs.declared.dialect.Dialect.TheVariants.{Mysql, Postgresql}
 use Rattle.lq_base.specs.declared.name.Name.{Name}
 use Rattle.lq_model.specs.Catalogue.{Catalogue, Sequence, Table, View, no_table, sequence_of, table_of, the_table, view_of, with_sequence, with_view, without_sequence, without_view}
-use Rattle.lq_model.specs.NameSpaces.{is_taken}
-use Rattle.lq_model.specs.Rename.{view_renamed}
-use Rattle.lq_model.specs.Reserved.{is_reserved, is_tracking, lock_key, takes_lock_key}
-use Rattle.lq_model.specs.Sequences.{sequence_renamed}
+use Rattle.lq_model.specs.NameSpaces.{is_taken, is_reserved, is_tracking, lock_key, takes_lock_key}
+use Rattle.lq_model.specs.Tables.{view_renamed}
+use Rattle.lq_model.specs.Views.{sequence_renamed}
 use Rattle.lq_model.specs.declared.caller.By.{By}
 use Rattle.lq_model.specs.declared.caller.By.TheVariants.{Program, User}
 use Rattle.lq_model.proofs.Decide.{none_from_unless}

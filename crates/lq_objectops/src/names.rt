@@ -1,7 +1,7 @@
 ghost use Rattle.std.specs.Prelude.{◌≡◌, ◌∷◌, [], ◌||◌};
 ghost use Rattle.lq_model.specs.NameSpaces as spaces;
-ghost use Rattle.lq_model.specs.Names.{is_in};
-ghost use Rattle.lq_model.specs.Reserved as reserved;
+ghost use Rattle.lq_model.specs.Catalogue.{is_in};
+ghost use Rattle.lq_model.specs.NameSpaces as reserved;
 ghost use Rattle.lq_objectops.specs.Quiet.{no_tests};
 
 use lq_arm::{Tests, any_is_inner, takes_lock_key};

@@ -1,11 +1,11 @@
 ghost use Rattle.std.specs.Prelude.{◌≡◌, Some, is_some, true, ℤ};
 ghost use Rattle.lq_model.specs.Catalogue.{sequence_of};
 ghost use Rattle.lq_model.specs.Plan.{decide};
-ghost use Rattle.lq_model.specs.Sequences as spec;
+ghost use Rattle.lq_model.specs.Views as spec;
 ghost use Rattle.lq_model.specs.Sound.{IsSound};
 ghost use Rattle.lq_decide.specs.Faults.{no_faults};
 ghost use Rattle.lq_arm.specs.Verdict.{tests_of, verdict_of};
-ghost use Rattle.lq_rows.specs.Answers.{Answers};
+ghost use Rattle.lq_rows.specs.Stored.{Answers};
 
 use crate::names::{are_reserved, is_taken, is_taken_to, no_tests};
 use lq_arm::Tests;

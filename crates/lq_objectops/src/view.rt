@@ -3,10 +3,10 @@ ghost use Rattle.lq_decide.specs.Faults.{no_faults};
 ghost use Rattle.lq_arm.specs.Verdict.{tests_of, verdict_of};
 ghost use Rattle.lq_model.specs.Catalogue.{view_of};
 ghost use Rattle.lq_model.specs.Plan.{decide};
-ghost use Rattle.lq_model.specs.Rename as renaming;
+ghost use Rattle.lq_model.specs.Tables as renaming;
 ghost use Rattle.lq_model.specs.Sound.{IsSound};
 ghost use Rattle.lq_model.specs.Views as spec;
-ghost use Rattle.lq_rows.specs.Answers.{Answers};
+ghost use Rattle.lq_rows.specs.Stored.{Answers};
 
 use crate::names::{are_reserved, is_taken_to, no_tests};
 use lq_arm::Tests;

@@ -13,15 +13,14 @@ use Rattle.lq_base.specs.declared.name.Name.{Name}
 use Rattle.lq_base.specs.declared.value.Value.{Value}
 use Rattle.lq_base.specs.declared.value.Value.TheVariants as value
 use Rattle.lq_model.proofs.Lists.{named_itself, same_name, true_false}
-use Rattle.lq_model.specs.Catalogue.{Table}
-use Rattle.lq_model.specs.Row.{by_name}
+use Rattle.lq_model.specs.Catalogue.{Table, by_name}
 use Rattle.lq_model.specs.Truth.{both_true, in_order, is_true, takes, truth, truth_of_and, value_order}
 use Rattle.lq_model.specs.declared.column.Column.{Column}
 use Rattle.lq_model.specs.declared.test.Op.TheVariants.{Eq}
 use Rattle.lq_model.specs.declared.test.Operand.TheVariants as operand
 use Rattle.lq_model.specs.declared.test.Test.{And, Compare, Test}
 use Rattle.lq_parts.proofs.OneRow.{only_there}
-use Rattle.lq_rows.specs.Print.{ArePlaces}
+use Rattle.lq_rows.specs.Stored.{ArePlaces}
 use Rattle.lq_one_row.specs.Only.{Begin, Gives, IsOnly, IsPlain, is_taken_at}
 
 -- what is equal to a text that is no moment is that text

@@ -7,8 +7,7 @@ use Rattle.lq_base.specs.declared.literal.Literal.TheVariants as literal
 use Rattle.lq_base.specs.declared.name.Name.{Name}
 use Rattle.lq_base.specs.declared.value.Value.{Value}
 use Rattle.lq_base.specs.declared.value.Value.TheVariants as value
-use Rattle.lq_model.specs.Catalogue.{Table}
-use Rattle.lq_model.specs.Row.{by_name}
+use Rattle.lq_model.specs.Catalogue.{Table, by_name}
 use Rattle.lq_model.specs.Truth.{moment_cmp, takes}
 use Rattle.lq_model.specs.declared.column.Column.{Column}
 use Rattle.lq_model.specs.declared.test.Test.{Test}

@@ -1,7 +1,7 @@
 -- The words that join the parts of an expression.
-use Rattle.std.specs.Prelude.{Bool, true, false}
+use Rattle.std.specs.Prelude.{Bool, false, true}
 use Rattle.lq_operators.specs.declared.operator.Operator.{Operator}
-use Rattle.lq_operators.specs.declared.operator.Operator.TheVariants.{Comma, Or, And}
+use Rattle.lq_operators.specs.declared.operator.Operator.TheVariants.{And, Comma, Or}
 use Rattle.lq_operators.specs.declared.word.Word.{Word}
 use Rattle.lq_operators.specs.declared.word.Word.TheVariants as word
 

@@ -1,7 +1,7 @@
 -- The options of a command, as rules of `clap`.
 use Rattle.std.specs.Prelude.{Bool, Some, codes}
-use Rattle.clap.specs.Walk.{Rule, Text}
 use Rattle.clap.specs.Simple.{new_rule}
+use Rattle.clap.specs.Walk.{Rule, Text}
 use Rattle.clap.specs.declared.builder.action.ArgAction.TheVariants.{Append}
 
 -- `--name=value` or `--name value`

@@ -1,7 +1,7 @@
 ghost use Rattle.std.specs.List.{list_any};
 ghost use Rattle.std.specs.Prelude.{◌≡◌, IfOk};
 ghost use Rattle.lq_model.specs.Catalogue.{the_table};
-ghost use Rattle.lq_model.specs.ResultTests as spec;
+ghost use Rattle.lq_model.specs.Plan as spec;
 ghost use Rattle.lq_parts.specs.Steps.{tables_of};
 ghost use Rattle.lq_rows.specs.Stored.{ShowsRows};
 

@@ -6,7 +6,7 @@ use Rattle.std.proofs.lemmas.List.Elements.{Contains-append_left, Contains-appen
 use Rattle.std.proofs.lemmas.Slice.Eq.{bytes_eq-Decides}
 use Rattle.std.specs.List.{slice_get, slice_index_or, Contains, IsDistinct, AllByRecursion}
 use Rattle.std.specs.Str.{bytes_eq}
-use Rattle.lq_outside.specs.Folder.{held_in, IsListing, IsUnder, Notes}
+use Rattle.lq_outside.specs.Forms.{held_in, IsListing, IsUnder, Notes}
 
 first : (back : List ℕ) → slice_get back 0 ≡ Some 47 → (rest : List ℕ) × (back ≡ 47 ∷ rest)
 first [] e = absurd (cc e)

@@ -1,7 +1,7 @@
 -- A text written piece by piece.
 use Rattle.std.proofs.Common.{◌≡◌, ◌∙◌, ℕ, List, [], ◌++◌, take, drop, Option, Some, None, option_map, refl, sym, ap}
 use Rattle.std.proofs.lemmas.List.{append_assoc, append-nil, take-append-drop}
-use Rattle.lq_outside.specs.Sink.{Took, IsPart}
+use Rattle.lq_outside.specs.Forms.{Took, IsPart}
 
 pub took_none : (text : List ℕ) (told : Option (List ℕ)) → Took text text told told
 took_none text None = record { front = []; is = refl; told = refl }

@@ -1,8 +1,7 @@
 -- A write that was cut short is also one of a longer range.
 use Rattle.std.proofs.Common.{◌≡◌, ℕ, ◌+◌, ◌-◌, ◌≤◌, List, length, take, drop, sym, ap, ◌∙◌, arith}
 use Rattle.std.proofs.lemmas.List.{drop-drop, length-take}
-use Rattle.lq_outside.specs.Bytes.{Torn}
-use Rattle.lq_outside.specs.Crash.{Crashes, Goes}
+use Rattle.lq_outside.specs.Crash.{Torn, Crashes, Goes}
 
 drop_more : (at n more : ℕ) (bytes : List ℕ) → n ≤ more → drop (more - n) (drop (at + n) bytes) ≡ drop (at + more) bytes
 drop_more at n more bytes le =

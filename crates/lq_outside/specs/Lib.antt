@@ -1,10 +1,3 @@
-pub mod Answers
-pub mod Bytes
-pub mod Count
 pub mod Crash
-pub mod Folder
 pub mod Forms
-pub mod Fuse
 pub mod Plan
-pub mod Record
-pub mod Sink

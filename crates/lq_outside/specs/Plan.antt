@@ -1,10 +1,10 @@
 -- Which calls of a memory form fail.
-use Rattle.std.specs.Prelude.{◌≡◌, ◌+◌, ◌-◌, ◌^◌, ◌==◌, ℕ, Bool, List, min}
 use Rattle.std.specs.List.{list_any}
-use Rattle.lq_outside.specs.declared.plan.Plan.{Plan}
-use Rattle.lq_outside.specs.declared.mem_files.MemFiles.{MemFiles}
+use Rattle.std.specs.Prelude.{Bool, List, min, ℕ, ◌+◌, ◌-◌, ◌==◌, ◌^◌, ◌≡◌}
 use Rattle.lq_outside.specs.declared.mem_disk.MemDisk.{MemDisk}
+use Rattle.lq_outside.specs.declared.mem_files.MemFiles.{MemFiles}
 use Rattle.lq_outside.specs.declared.mem_sink.MemSink.{MemSink}
+use Rattle.lq_outside.specs.declared.plan.Plan.{Plan}
 
 -- the number of the next call: the first has 1
 abbrev pub next : Plan → ℕ

@@ -1,6 +1,6 @@
 ghost use Rattle.std.specs.Prelude.{◌≡◌, ℕ, List, Option, Some, IfSome, slice_get};
 ghost use Rattle.std.specs.Option.{option_map};
-ghost use Rattle.lq_outside.specs.Answers.{after_first};
+ghost use Rattle.lq_outside.specs.Forms.{after_first};
 
 /// A clock, which has no fault.
 pub trait Clock {

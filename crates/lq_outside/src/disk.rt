@@ -1,7 +1,6 @@
 ghost use Rattle.std.specs.Prelude.{◌≡◌, ◌+◌, ◌≤◌, ℕ, List, Option, length, IfSome, IfOk, OnOk, OnErr};
-ghost use Rattle.lq_outside.specs.Count.{CountsFault};
-ghost use Rattle.lq_outside.specs.Bytes.{Reads, Writes, Tears, Torn};
-ghost use Rattle.lq_outside.specs.Crash.{Crashes, Goes, Same, Settled, IsSound, SameSyncs, NewSync};
+ghost use Rattle.lq_outside.specs.Forms.{CountsFault};
+ghost use Rattle.lq_outside.specs.Crash.{Reads, Writes, Tears, Torn, Crashes, Goes, Same, Settled, IsSound, SameSyncs, NewSync};
 
 use thiserror::Error;
 

@@ -1,6 +1,5 @@
 ghost use Rattle.std.specs.Prelude.{◌≡◌, ◌≤◌, ℕ, List, Option, IfSome, IfOk, IsErrOf, OnOk};
-ghost use Rattle.lq_outside.specs.Count.{Rose};
-ghost use Rattle.lq_outside.specs.Folder.{IsFound, IsListing, IsWithinLimit};
+ghost use Rattle.lq_outside.specs.Forms.{Rose, IsFound, IsListing, IsWithinLimit};
 ghost use Rattle.lq_outside.specs.declared.files.FilesFault.TheVariants.{Failed};
 
 use lq_base::{Items, Text};

@@ -1,6 +1,6 @@
 ghost use Rattle.std.specs.Prelude.{◌≡◌, ◌++◌, ◌∷◌, ◌↔◌, IfOk, IsTrue, OnOk, Some, slice_get, List, ℕ};
 ghost use Rattle.std.specs.List.{Contains};
-ghost use Rattle.lq_outside.specs.Folder.{held_in, IsFound, IsListing, IsUnder, Notes};
+ghost use Rattle.lq_outside.specs.Forms.{held_in, IsFound, IsListing, IsUnder, Notes};
 
 use crate::Found;
 use lq_base::{Items, NoMemory, Text};

@@ -1,7 +1,6 @@
 ghost use Rattle.std.specs.Prelude.{◌≡◌, ◌++◌, ◌<◌, OnOk, OnErr, IfOk, length};
 ghost use Rattle.std.specs.Option.{option_map};
-ghost use Rattle.lq_outside.specs.Count.{CountsFault};
-ghost use Rattle.lq_outside.specs.Sink.{IsPart, Took};
+ghost use Rattle.lq_outside.specs.Forms.{CountsFault, IsPart, Took};
 
 use crate::{Sink, SinkFailed};
 

@@ -1,5 +1,5 @@
 ghost use Rattle.std.specs.Prelude.{◌≡◌, ◌↔◌, IsErr, IsTrue};
-ghost use Rattle.lq_outside.specs.Count.{CountsFault};
+ghost use Rattle.lq_outside.specs.Forms.{CountsFault};
 ghost use Rattle.lq_outside.specs.Plan.{fails, GoesOn, Starts};
 
 use crate::{DiskFailed, FilesFault, SinkFailed};

@@ -1,6 +1,6 @@
 ghost use Rattle.std.specs.Prelude.{◌≡◌, ◌<◌, ◌≤◌, ◌++◌, ℕ, List, Option, length, take, IfOk, OnErr};
 ghost use Rattle.std.specs.Option.{option_map};
-ghost use Rattle.lq_outside.specs.Count.{CountsFault};
+ghost use Rattle.lq_outside.specs.Forms.{CountsFault};
 
 use thiserror::Error;
 

@@ -1,6 +1,5 @@
 ghost use Rattle.std.specs.Prelude.{◌≡◌, ◌≤◌, Some, IfSome, IfOk, IsErrOf, OnOk};
-ghost use Rattle.lq_outside.specs.Count.{Rose};
-ghost use Rattle.lq_outside.specs.Folder.{held_in, IsFound, IsListing, IsWithinLimit};
+ghost use Rattle.lq_outside.specs.Forms.{Rose, held_in, IsFound, IsListing, IsWithinLimit};
 ghost use Rattle.lq_outside.specs.declared.files.FilesFault.TheVariants.{Failed};
 
 use crate::folder::{find, paths_under};

@@ -1,6 +1,6 @@
 ghost use Rattle.std.specs.Prelude.{◌≡◌, ◌<◌, ◌++◌, Some, [], length, take, IfOk, OnErr};
 ghost use Rattle.std.specs.Option.{option_map};
-ghost use Rattle.lq_outside.specs.Count.{CountsFault};
+ghost use Rattle.lq_outside.specs.Forms.{CountsFault};
 
 use crate::{Sink, SinkFailed};
 use std::alloc::Global;

@@ -5,7 +5,7 @@ use Rattle.lq_base.specs.declared.literal.Literal.{Literal}
 use Rattle.lq_base.specs.declared.literal.Literal.TheVariants as constant
 use Rattle.lq_base.specs.Name.{parts_of}
 use Rattle.lq_base.specs.Number.{fixed_text, whole_text}
-use Rattle.lq_model.specs.Spelled.{levels}
+use Rattle.lq_model.specs.Comparison.{levels}
 use Rattle.lq_model.specs.SqlParser.{Parser, after, ended, expect, led_by, many, same_kind, sees, to_end}
 use Rattle.lq_model.specs.SqlPart.{literal, name, number}
 use Rattle.lq_model.specs.SqlTest.{any_test, comparison, most, nullness, operand, operator, primary, product, sum, term}

@@ -1,9 +1,8 @@
 -- How tests are read of which at most 64 levels are made.
 use Rattle.std.proofs.Common.{◌≡◌, ◌≤◌, ◌<◌, ◌-◌, ℕ, zero, suc, true, false, nat_le, if◌then◌else◌, List, [], ◌∷◌, Some, None, Result, Ok, Err, ap, subst, ◌∙◌, sym, refl, arith}
 use Rattle.std.specs.List.{fold}
-use Rattle.lq_model.specs.Reads.{Reads}
-use Rattle.lq_model.specs.Spelled.{levels}
-use Rattle.lq_model.specs.SqlParser.{Outcome, Parser, after, and_more, and_then, led_by, many, next, pure, refuse, same_kind, sees}
+use Rattle.lq_model.specs.SqlParser.{Reads, Outcome, Parser, after, and_more, and_then, led_by, many, next, pure, refuse, same_kind, sees}
+use Rattle.lq_model.specs.Comparison.{levels}
 use Rattle.lq_model.specs.SqlTest.{any_test, comparison, most, primary, product, sum, term}
 use Rattle.lq_model.specs.declared.fault.ParseFault.{ParseFault}
 use Rattle.lq_model.specs.declared.fault.ParseFault.TheVariants.{NotSql, OutOfMemory}
@@ -14,7 +13,7 @@ use Rattle.lq_model.specs.declared.word.WordKind.{WordKind}
 use Rattle.lq_model.specs.declared.word.WordKind.TheVariants as word
 use Rattle.lq_parse.proofs.Levels.{Deepens, and_deepens, fold_deepens, none_past, not_deepens, or_deepens}
 use Rattle.lq_parse.proofs.Many.{Takes, led_by_takes, many_turn, shortens_primary, shortens_product, shortens_term}
-use Rattle.lq_parse.specs.UpTo.{Exceeds, ReadsUpTo, joined}
+use Rattle.lq_parse.specs.Kinds.{Exceeds, ReadsUpTo, joined}
 
 -- what exceeds a bound
 

@@ -2,7 +2,7 @@
 use Rattle.std.proofs.Common.{◌≡◌, ℕ, zero, suc, ◌+◌, ◌<◌, ◌≤◌, ◌==◌, ◌||◌, nat_le, Bool, true, false, inl, inr, arith, rules, tests, List, [], ◌∷◌, ◌++◌, length, subst, sym, refl}
 use Rattle.std.specs.Char.{is_ascii_digit}
 use Rattle.std.specs.List.{list_all, list_any, prefix_len}
-use Rattle.lq_base.specs.SqlByte.{is_blank}
+use Rattle.lq_base.specs.Sql.{is_blank}
 use Rattle.std.proofs.lemmas.Bool.{and_from, and_parts, eqb-true, or_cases}
 
 abbrev pub Each : (ℕ → Type 0) → List ℕ → Type 0

@@ -6,14 +6,14 @@ use Rattle.std.proofs.lemmas.Bool.{and_from}
 use Rattle.lq_base.specs.Laws.{NumberOfSpells}
 use Rattle.lq_base.specs.Name.{is_name, is_object}
 use Rattle.lq_base.specs.declared.dialect.Dialect.{Dialect}
-use Rattle.lq_model.specs.Spelled.{is_literal, is_spelled, levels, test_literals}
+use Rattle.lq_model.specs.Comparison.{is_literal, is_spelled, levels, test_literals}
 use Rattle.lq_model.specs.SqlParser.{Outcome, Parser, eat, expect, separated, to_end}
 use Rattle.lq_model.specs.SqlPart.{literal, name, object}
 use Rattle.lq_model.specs.SqlQuery.{columns, count, peek_count, query, selected}
 use Rattle.lq_model.specs.SqlTest.{any_test, where_test}
 use Rattle.lq_model.specs.SqlText.{query_in, read, test_in, whole}
 use Rattle.lq_model.specs.SqlWord.{words}
-use Rattle.lq_model.specs.Statement.{is_query, is_wanted, is_where}
+use Rattle.lq_model.specs.Step.{is_query, is_wanted, is_where}
 use Rattle.lq_model.specs.Truth.{test_names}
 use Rattle.lq_model.specs.declared.query.Query.{Query}
 use Rattle.lq_model.specs.declared.query.Wanted.{Wanted}

@@ -3,9 +3,7 @@ use Rattle.std.proofs.Common.{◌≡◌, ◌<◌, ℕ, zero, suc, ◌+◌, ◌==
 use Rattle.std.specs.List.{All, list_any}
 use Rattle.std.specs.Prelude.{codes, slice_index}
 use Rattle.std.proofs.lemmas.Bool.{eqb-true, or_cases}
-use Rattle.lq_base.specs.SqlByte.{is_text_quote}
-use Rattle.lq_base.specs.SqlLexeme.{length_at, length_of, sort_at}
-use Rattle.lq_base.specs.SqlQuoted.{after, is_pair, quoted_end}
+use Rattle.lq_base.specs.Sql.{is_text_quote, length_at, length_of, sort_at, after, is_pair, quoted_end}
 use Rattle.lq_base.specs.declared.dialect.Dialect.TheVariants.{Mysql}
 use Rattle.lq_base.specs.declared.lexeme.LexemeSort.TheVariants as sort
 use Rattle.lq_model.specs.SqlWord.{inside, pair_text, unquoted, with_text, words}

@@ -5,8 +5,7 @@ use Rattle.std.specs.Fmt.{sign_text}
 use Rattle.std.specs.List.{list_all, prefix_len}
 use Rattle.std.specs.Prelude.{codes}
 use Rattle.std.proofs.lemmas.Bool.{and_from, and_parts}
-use Rattle.lq_base.specs.SqlByte.{is_blank, is_word_byte, is_number_byte}
-use Rattle.lq_base.specs.SqlLexeme.{goes_on, length_at, length_of, lexemes, sort_at}
+use Rattle.lq_base.specs.Sql.{is_blank, is_word_byte, is_number_byte, goes_on, length_at, length_of, lexemes, sort_at}
 use Rattle.lq_base.specs.declared.dialect.Dialect.{Dialect}
 use Rattle.lq_base.specs.declared.dialect.Dialect.TheVariants.{Postgresql, Mysql}
 use Rattle.lq_base.specs.declared.lexeme.LexemeSort.{LexemeSort}

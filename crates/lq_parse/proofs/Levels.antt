@@ -2,7 +2,7 @@
 use Rattle.std.proofs.Common.{◌≡◌, ℕ, suc, ◌+◌, ◌-◌, ◌<◌, ◌≤◌, List, [], ◌∷◌, Bool, true, false, ◌&&◌, nat_le, max, refl, ap, ◌∙◌, sym, arith}
 use Rattle.std.proofs.lemmas.Bool.{le-leb, leb-true}
 use Rattle.std.specs.List.{fold}
-use Rattle.lq_model.specs.Spelled.{levels}
+use Rattle.lq_model.specs.Comparison.{levels}
 use Rattle.lq_model.specs.declared.test.Test.{And, Not, Or, Test}
 
 levels_of_and : (a b : Test) → levels (And a b) ≡ max (levels a) (levels b) + 1

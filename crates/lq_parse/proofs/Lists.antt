@@ -1,10 +1,10 @@
 -- Lists with commas: their canonical words, and that they are read from them.
 use Rattle.std.proofs.Common.{◌≡◌, ◌≤◌, ℕ, zero, suc, true, false, List, [], ◌∷◌, ◌++◌, length, map, Option, Some, None, option_map, ap, ◌∙◌, refl, arith}
 use Rattle.std.specs.Prelude.{codes}
-use Rattle.lq_base.specs.SqlLexeme.{length_at}
+use Rattle.lq_base.specs.Sql.{length_at}
 use Rattle.lq_base.specs.declared.dialect.Dialect.{Dialect}
 use Rattle.lq_base.specs.declared.dialect.Dialect.TheVariants.{Postgresql, Mysql}
-use Rattle.lq_model.specs.Phrase as text
+use Rattle.lq_model.specs.TestText as text
 use Rattle.lq_model.specs.SqlParser.{Parser, led_by, many, many_of, same_kind, sees, separated}
 use Rattle.lq_model.specs.SqlWord.{bare, kind_of_word, words}
 use Rattle.lq_model.specs.TestText.{after_commas, listed}

@@ -9,7 +9,7 @@ use Rattle.lq_base.specs.declared.dialect.Dialect.{Dialect}
 use Rattle.lq_base.specs.declared.dialect.Dialect.TheVariants.{Mysql, Postgresql}
 use Rattle.lq_base.specs.declared.literal.Literal.{Literal}
 use Rattle.lq_base.specs.declared.literal.Literal.TheVariants as constant
-use Rattle.lq_model.specs.Spelled.{is_literal, levels, operand_literals, test_literals}
+use Rattle.lq_model.specs.Comparison.{is_literal, levels, operand_literals, test_literals}
 use Rattle.lq_model.specs.SqlParser.{Outcome, Parser, ◌>>=◌, and_more, and_then, eat, ended, expect, given, led_by, many, many_of, peek, pure, refuse, same_kind, separated, skip, taken, to_end}
 use Rattle.lq_model.specs.SqlPart.{literal, literal_by, name, name_of, number, object, qualified}
 use Rattle.lq_model.specs.SqlTest.{any_test, begins_literal, comparison, most, nullness, operand, operator, primary, product, sum, term, where_test}

@@ -13,7 +13,7 @@ use Rattle.lq_base.specs.Number.{has_digits, is_digits, is_dot, number_of, signe
 use Rattle.lq_base.specs.Spells.{IsPointed, SpellsNumber}
 use Rattle.lq_base.specs.declared.literal.Literal.{Literal}
 use Rattle.lq_base.specs.declared.literal.Literal.TheVariants as constant
-use Rattle.lq_model.specs.Spelled.{is_literal}
+use Rattle.lq_model.specs.Comparison.{is_literal}
 use Rattle.lq_model.specs.SqlPart.{number, whole_by}
 use Rattle.lq_parse.proofs.Bytes.{all_append}
 use Rattle.lq_parse.proofs.Makes.{IsLiteralText}

@@ -10,9 +10,9 @@ use Rattle.std.proofs.lemmas.Str.Parse.{IsDigitsTest, IsNumeralModel, numerals_b
 use Rattle.lq_base.specs.Laws.{FixedReadsBack, SpellsGivesNumberOf}
 use Rattle.lq_base.specs.Number.{fixed_text, has_digits, is_digits, is_dot, signed, whole_text}
 use Rattle.lq_base.specs.Spells.{IsPointed}
-use Rattle.lq_base.specs.SqlByte.{is_number_byte}
+use Rattle.lq_base.specs.Sql.{is_number_byte}
 use Rattle.lq_base.specs.declared.literal.Literal.TheVariants as constant
-use Rattle.lq_model.specs.Spelled.{is_literal}
+use Rattle.lq_model.specs.Comparison.{is_literal}
 use Rattle.lq_model.specs.SqlPart.{number, whole_by}
 use Rattle.lq_parse.proofs.Bytes.{all_append, all_in, digit_is}
 use Rattle.lq_parse.proofs.Fronts.{IsNumberText, digit_is_number_byte}

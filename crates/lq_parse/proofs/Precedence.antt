@@ -2,8 +2,8 @@
 use Rattle.std.proofs.Common.{◌≡◌, ◌<◌, ◌≤◌, ℕ, true, false, nat_le, List, [], ◌∷◌, ◌++◌, length, Some, option_map, ap, ◌∙◌, refl, arith}
 use Rattle.std.specs.Prelude.{codes}
 use Rattle.lq_base.specs.declared.dialect.Dialect.{Dialect}
-use Rattle.lq_model.specs.Phrase as text
-use Rattle.lq_model.specs.Spelled.{levels}
+use Rattle.lq_model.specs.TestText as text
+use Rattle.lq_model.specs.Comparison.{levels}
 use Rattle.lq_model.specs.SqlParser.{Parser, after, ended, expect, same_kind, sees, to_end}
 use Rattle.lq_model.specs.SqlTest.{any_test, most, primary, product, sum, term}
 use Rattle.lq_model.specs.SqlText.{test_in}

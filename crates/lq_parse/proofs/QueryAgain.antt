@@ -4,20 +4,19 @@ use Rattle.std.specs.List.{list_all}
 use Rattle.std.specs.Prelude.{codes}
 use Rattle.std.proofs.lemmas.Bool.{and_parts}
 use Rattle.lq_base.specs.Name.{is_name, is_object, parts_of}
-use Rattle.lq_base.specs.SqlLexeme.{length_at}
+use Rattle.lq_base.specs.Sql.{length_at}
 use Rattle.lq_base.specs.declared.dialect.Dialect.{Dialect}
 use Rattle.lq_base.specs.declared.dialect.Dialect.TheVariants.{Postgresql, Mysql}
-use Rattle.lq_model.specs.Names.{is_empty}
-use Rattle.lq_model.specs.Phrase as text
-use Rattle.lq_model.specs.Quoting.{name_text}
+use Rattle.lq_model.specs.Catalogue.{is_empty}
+use Rattle.lq_model.specs.TestText as text
+use Rattle.lq_model.specs.TestText.{name_text, names_text, query_text, wanted_text, where_text}
 use Rattle.lq_model.specs.SqlParser.{after, ended, expect, same_kind, sees, to_end}
 use Rattle.lq_model.specs.SqlPart.{name}
 use Rattle.lq_model.specs.SqlQuery.{columns, count, query, sees_count, selected}
 use Rattle.lq_model.specs.SqlTest.{where_test}
 use Rattle.lq_model.specs.SqlText.{query_in}
 use Rattle.lq_model.specs.SqlWord.{bare, folded, kind_of_word, with_text, words}
-use Rattle.lq_model.specs.Statement.{is_wanted, is_where}
-use Rattle.lq_model.specs.TestText.{names_text, query_text, wanted_text, where_text}
+use Rattle.lq_model.specs.Step.{is_wanted, is_where}
 use Rattle.lq_model.specs.declared.query.Query.{Query}
 use Rattle.lq_model.specs.declared.query.Wanted.{Wanted}
 use Rattle.lq_model.specs.declared.query.Wanted.TheVariants as wanted

@@ -6,7 +6,7 @@ use Rattle.std.proofs.lemmas.List.{length-map}
 use Rattle.lq_base.specs.declared.dialect.Dialect.{Dialect}
 use Rattle.lq_base.specs.declared.dialect.Dialect.TheVariants.{Mysql, Postgresql}
 use Rattle.lq_base.specs.declared.literal.Literal.TheVariants as constant
-use Rattle.lq_model.specs.Spelled.{levels}
+use Rattle.lq_model.specs.Comparison.{levels}
 use Rattle.lq_model.specs.SqlParser.{Outcome, Parser, ◌>>=◌, after, and_more, and_then, eat, ended, expect, given, kind, led_by, many, many_of, next, peek, pure, refuse, same_kind, sees, separated, skip, taken, text, to_end}
 use Rattle.lq_model.specs.SqlPart.{literal, literal_by, name, name_of, number, object, qualified}
 use Rattle.lq_model.specs.SqlQuery.{columns, count, peek_count, query, sees_count, selected}

@@ -4,14 +4,12 @@ use Rattle.std.specs.Prelude.{codes, slice_index}
 use Rattle.std.proofs.lemmas.Bool.{eqb-true}
 use Rattle.std.proofs.lemmas.List.{append-nil}
 use Rattle.lq_base.specs.Name.{parts_of, schema_in, text_in}
-use Rattle.lq_base.specs.SqlByte.{escapes, is_text_quote}
-use Rattle.lq_base.specs.SqlLexeme.{length_at}
-use Rattle.lq_base.specs.SqlQuoted.{is_pair}
+use Rattle.lq_base.specs.Sql.{escapes, is_text_quote, length_at, is_pair}
 use Rattle.lq_base.specs.declared.dialect.Dialect.{Dialect}
 use Rattle.lq_base.specs.declared.dialect.Dialect.TheVariants.{Postgresql, Mysql}
 use Rattle.lq_base.specs.declared.lexeme.LexemeSort.TheVariants as sort
-use Rattle.lq_model.specs.Phrase as phrases
-use Rattle.lq_model.specs.Quoting as model
+use Rattle.lq_model.specs.TestText as phrases
+use Rattle.lq_model.specs.TestText as model
 use Rattle.lq_model.specs.SqlWord.{bare, inside, kind_of_word, pair_text, unquoted, with_text, words}
 use Rattle.lq_model.specs.declared.phrase.Phrase.TheVariants as phrase
 use Rattle.lq_model.specs.declared.word.Word.{Word}
@@ -160,7 +158,7 @@ string_read : LexemesGoOn → TextsAreRead → (d : Dialect) (text rest : List �
 string_read go_on texts d text rest is stop = strings_whole go_on texts d 39 text rest is (apart 39 refl (refl, (refl, (refl, (refl, tt)))) rest stop)
 
 pub string_says : LexemesGoOn → TextsAreRead → (d : Dialect) (text rest : List ℕ) → Stops rest → Says d (model.string_text d text) (λ more. with_text word.Text text ∷ more) rest
-unfolding model.string_text Rattle.lq_model.specs.Phrase.words
+unfolding model.string_text Rattle.lq_model.specs.TestText.words
 string_says go_on texts Postgresql text rest stop =
     ap (λ z. words Postgresql (39 ∷ (z ++ 39 ∷ []) ++ rest)) (doubled_same false 39 (λ b. b == 39) (λ b. plain_or (b == 39)) text)
     ∙ string_read go_on texts Postgresql text rest refl stop

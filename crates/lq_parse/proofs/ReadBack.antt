@@ -4,14 +4,14 @@ use Rattle.std.specs.List.{list_all}
 use Rattle.std.proofs.lemmas.Bool.{and_parts, leb-true}
 use Rattle.std.proofs.lemmas.List.{append-nil}
 use Rattle.lq_base.specs.Name.{is_name}
-use Rattle.lq_base.specs.SqlLexeme.{lexemes}
+use Rattle.lq_base.specs.Sql.{lexemes}
 use Rattle.lq_base.specs.declared.dialect.Dialect.{Dialect}
-use Rattle.lq_model.specs.Spelled.{is_literal, is_spelled, levels, test_literals}
+use Rattle.lq_model.specs.Comparison.{is_literal, is_spelled, levels, test_literals}
 use Rattle.lq_model.specs.SqlParser.{Parser, to_end}
 use Rattle.lq_model.specs.SqlTest.{any_test}
 use Rattle.lq_model.specs.SqlText.{test_in, whole}
 use Rattle.lq_model.specs.SqlWord.{words}
-use Rattle.lq_model.specs.Statement.{is_where}
+use Rattle.lq_model.specs.Step.{is_where}
 use Rattle.lq_model.specs.TestText.{test_text}
 use Rattle.lq_model.specs.Truth.{test_names}
 use Rattle.lq_model.specs.declared.test.Test.{Test}

@@ -2,13 +2,13 @@
 use Rattle.std.proofs.Common.{◌≡◌, ℕ, true, false, List, ◌∷◌, ◌++◌, Option, Some, None, option_map, ap, ◌∙◌, refl, append_assoc, arith}
 use Rattle.std.specs.Prelude.{codes}
 use Rattle.lq_base.specs.Laws.{FixedReadsBack, SpellsGivesNumberOf}
-use Rattle.lq_base.specs.SqlLexeme.{length_at}
+use Rattle.lq_base.specs.Sql.{length_at}
 use Rattle.lq_base.specs.declared.dialect.Dialect.{Dialect}
 use Rattle.lq_base.specs.declared.dialect.Dialect.TheVariants.{Postgresql, Mysql}
 use Rattle.lq_base.specs.declared.literal.Literal.{Literal}
 use Rattle.lq_base.specs.declared.literal.Literal.TheVariants as constant
-use Rattle.lq_model.specs.Phrase as text
-use Rattle.lq_model.specs.Spelled.{is_literal}
+use Rattle.lq_model.specs.TestText as text
+use Rattle.lq_model.specs.Comparison.{is_literal}
 use Rattle.lq_model.specs.SqlWord.{bare, kind_of_word, words}
 use Rattle.lq_model.specs.TestText.{literal_text, op_text, operand_text, test_text}
 use Rattle.lq_model.specs.Truth.{Both, Either, Turned}

@@ -8,10 +8,7 @@ use Rattle.std.specs.Str.{IsUtf8}
 use Rattle.std.proofs.lemmas.Bool.{and_from, and_parts, cases_lt, eqb-true, le-leb, leb-true, ltb-true, ne_eqb, or_cases}
 use Rattle.std.proofs.lemmas.List.{append-nil, drop_at, take_at}
 use Rattle.std.proofs.lemmas.Str.{IsCharBoundary-after_ascii, IsCharBoundary-before_ascii, IsUtf8-append, IsUtf8-drop, IsUtf8-from_ascii, IsUtf8-nil, IsUtf8-take}
-use Rattle.lq_base.specs.SqlByte.{escapes, is_blank, is_name_quote, is_number_byte, is_text_quote, is_word_byte}
-use Rattle.lq_base.specs.SqlComment.{begins_block_comment, begins_line_comment}
-use Rattle.lq_base.specs.SqlLexeme.{begins_number, length_at, length_of, sort_at}
-use Rattle.lq_base.specs.SqlQuoted.{after, is_pair, quoted_end}
+use Rattle.lq_base.specs.Sql.{escapes, is_blank, is_name_quote, is_number_byte, is_text_quote, is_word_byte, begins_block_comment, begins_line_comment, begins_number, length_at, length_of, sort_at, after, is_pair, quoted_end}
 use Rattle.lq_base.specs.declared.dialect.Dialect.{Dialect}
 use Rattle.lq_base.specs.declared.dialect.Dialect.TheVariants.{Postgresql, Mysql}
 use Rattle.lq_base.specs.declared.lexeme.LexemeSort.{LexemeSort}
@@ -19,7 +16,7 @@ use Rattle.lq_base.specs.declared.lexeme.LexemeSort.TheVariants as sort
 use Rattle.lq_model.specs.SqlWord.{bare, escaped, folded, inside, kind_of_word, may_be_name, pair_text, unquoted, unquoted_word, with_text, words_of}
 use Rattle.lq_model.specs.declared.word.WordKind.{WordKind}
 use Rattle.lq_model.specs.declared.word.WordKind.TheVariants as word
-use Rattle.lq_parse.specs.Words.{AreTexts}
+use Rattle.lq_parse.specs.Kinds.{AreTexts}
 use Rattle.lq_parse.proofs.Bytes.{all_in}
 
 -- a text cut at an ASCII byte

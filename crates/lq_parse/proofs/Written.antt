@@ -6,7 +6,7 @@ use Rattle.std.proofs.lemmas.List.Folds.{list_all-append}
 use Rattle.lq_base.specs.Name.{is_name}
 use Rattle.lq_base.specs.declared.literal.Literal.{Literal}
 use Rattle.lq_base.specs.declared.literal.Literal.TheVariants as constant
-use Rattle.lq_model.specs.Spelled.{is_literal, operand_literals, test_literals}
+use Rattle.lq_model.specs.Comparison.{is_literal, operand_literals, test_literals}
 use Rattle.lq_model.specs.Truth.{Both, Either, Turned, operand_names, test_names}
 use Rattle.lq_model.specs.declared.test.Operand.{Operand}
 use Rattle.lq_model.specs.declared.test.Operand.TheVariants as side

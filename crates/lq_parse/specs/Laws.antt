@@ -1,20 +1,19 @@
 -- What holds of the meanings of SQL texts.
-use Rattle.std.specs.Prelude.{◌≡◌, ℕ, ◌==◌, if◌then◌else◌, false, not, true, List, [], ◌∷◌, ◌++◌, All, filter, map, slice_index, Some, option_map, codes}
 use Rattle.std.specs.Char.{to_ascii_lowercase}
 use Rattle.std.specs.List.{list_any}
+use Rattle.std.specs.Prelude.{All, List, Some, [], codes, false, filter, if◌then◌else◌, map, not, option_map, slice_index, true, ℕ, ◌++◌, ◌==◌, ◌∷◌, ◌≡◌}
 use Rattle.std.specs.Str.{bytes_eq, str_eq_ignore_ascii_case}
-use Rattle.lq_base.specs.SqlByte.{escapes, is_name_quote, is_text_quote}
-use Rattle.lq_base.specs.SqlLexeme.{is_trivia_sort, lexemes}
+use Rattle.lq_base.specs.Sql.{escapes, is_name_quote, is_text_quote, is_trivia_sort, lexemes}
 use Rattle.lq_base.specs.declared.dialect.Dialect.{Dialect}
 use Rattle.lq_base.specs.declared.dialect.Dialect.TheVariants.{Mysql, Postgresql}
 use Rattle.lq_base.specs.declared.lexeme.LexemeSort.{LexemeSort}
 use Rattle.lq_base.specs.declared.lexeme.LexemeSort.TheVariants as sort
-use Rattle.lq_model.specs.SqlText.{query_in, test_in}
 use Rattle.lq_model.specs.SqlParser.{expect, same_kind, sees}
 use Rattle.lq_model.specs.SqlPart.{name}
 use Rattle.lq_model.specs.SqlQuery.{query}
+use Rattle.lq_model.specs.SqlText.{query_in, test_in}
 use Rattle.lq_model.specs.SqlWord.{bare, folded, kind_of_word, may_be_name, with_text, words, words_of}
-use Rattle.lq_model.specs.Statement.{is_query, is_where}
+use Rattle.lq_model.specs.Step.{is_query, is_where}
 use Rattle.lq_model.specs.TestText.{query_text, test_text}
 use Rattle.lq_model.specs.declared.query.Query.{Query}
 use Rattle.lq_model.specs.declared.test.Test.{And, Not, Or, Test}

@@ -1,5 +1,2 @@
-pub mod Kinds
 pub mod Laws
-pub mod Meets
-pub mod UpTo
-pub mod Words
+pub mod Kinds

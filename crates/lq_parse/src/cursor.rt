@@ -1,6 +1,6 @@
 ghost use Rattle.std.specs.Prelude.{◌≡◌, length};
 ghost use Rattle.lq_model.specs.SqlParser as spec;
-ghost use Rattle.lq_model.specs.Reads.{Reads};
+ghost use Rattle.lq_model.specs.SqlParser.{Reads};
 ghost use Rattle.lq_parse.specs.Kinds.{words_kept, text_if, texts_behind};
 
 use crate::spelling::{has_text, same_kind};

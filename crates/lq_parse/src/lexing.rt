@@ -1,10 +1,9 @@
 ghost use Rattle.std.specs.Prelude.{◌≡◌, [], ◌∷◌, ◌++◌, false, IfOk, OnOk};
 ghost use Rattle.std.specs.Str.{IsUtf8};
-ghost use Rattle.lq_base.specs.SqlByte.{escapes};
-ghost use Rattle.lq_model.specs.Reads.{Gives};
+ghost use Rattle.lq_base.specs.Sql.{escapes};
+ghost use Rattle.lq_model.specs.SqlParser.{Gives};
 ghost use Rattle.lq_model.specs.SqlWord as spec;
-ghost use Rattle.lq_parse.specs.Words.{AreTexts};
-ghost use Rattle.lq_parse.specs.Kinds.{AreEven, has_text, words_kept};
+ghost use Rattle.lq_parse.specs.Kinds.{AreTexts, AreEven, has_text, words_kept};
 
 use crate::cursor::WordList;
 use crate::quoted::unquoted;

@@ -1,11 +1,10 @@
 ghost use Rattle.std.specs.declared.alloc.Global.{Global};
 ghost use denote.Ref.{MutBor};
 ghost use Rattle.lq_model.specs.SqlParser as spec;
-ghost use Rattle.lq_model.specs.SqlParser.{Parser};
-ghost use Rattle.lq_model.specs.Reads.{Reads};
+ghost use Rattle.lq_model.specs.SqlParser.{Parser, Reads};
 ghost use Rattle.lq_model.specs.declared.word.Word.{Word};
 ghost use Rattle.std.specs.Prelude.{List, Option};
-ghost use Rattle.lq_parse.specs.Meets.{Meets};
+ghost use Rattle.lq_parse.specs.Kinds.{Meets};
 
 use crate::cursor::Words;
 use lq_base::Items;

@@ -4,7 +4,7 @@ ghost use Rattle.std.specs.List.{list_all, list_any};
 ghost use Rattle.std.specs.Str.Parse.{digits_value, starts_with_minus};
 ghost use Rattle.lq_base.specs.Number.{is_dot, signed, without_minus};
 ghost use Rattle.lq_base.specs.declared.literal.Literal.TheVariants as constant;
-ghost use Rattle.lq_model.specs.Spelled.{is_literal};
+ghost use Rattle.lq_model.specs.Comparison.{is_literal};
 ghost use Rattle.lq_model.specs.SqlPart as spec;
 
 use lq_base::{Literal, is_digits, number_of};

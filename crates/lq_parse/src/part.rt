@@ -1,4 +1,4 @@
-ghost use Rattle.lq_model.specs.Reads.{Gives, Reads};
+ghost use Rattle.lq_model.specs.SqlParser.{Gives, Reads};
 ghost use Rattle.lq_model.specs.SqlPart as spec;
 
 use crate::cursor::Words;

@@ -1,5 +1,5 @@
 ghost use Rattle.std.specs.Prelude.{◌≡◌, ◌++◌, IfOk, OnOk};
-ghost use Rattle.lq_base.specs.SqlQuoted.{is_pair};
+ghost use Rattle.lq_base.specs.Sql.{is_pair};
 ghost use Rattle.lq_model.specs.SqlWord as spec;
 
 use lq_base::Items;

@@ -1,10 +1,10 @@
 ghost use Rattle.std.specs.Prelude.{◌≡◌, ◌≤◌, ◌+◌, nat_le, IfOk};
-ghost use Rattle.lq_model.specs.Reads.{Reads};
-ghost use Rattle.lq_model.specs.Spelled.{levels};
+ghost use Rattle.lq_model.specs.SqlParser.{Reads};
+ghost use Rattle.lq_model.specs.Comparison.{levels};
 ghost use Rattle.lq_model.specs.SqlTest as spec;
 ghost use Rattle.lq_model.specs.declared.test.Test.TheVariants as test;
 ghost use Rattle.lq_model.specs.declared.word.WordKind.TheVariants as word;
-ghost use Rattle.lq_parse.specs.UpTo.{ReadsUpTo, joined};
+ghost use Rattle.lq_parse.specs.Kinds.{ReadsUpTo, joined};
 
 use crate::cursor::Words;
 use crate::part::{literal, name};

@@ -15,7 +15,7 @@ use Rattle.std.specs.declared.cmp.Ordering.TheVariants.{Equal, Greater, Less}
 use Rattle.lq_base.specs.Name.{is_named, name_cmp}
 use Rattle.lq_base.specs.declared.name.Name.{Name}
 use Rattle.lq_model.proofs.Maps.{below_gone, not_some, sorted-insert_entry, sorted-remove_entry}
-use Rattle.lq_parts.specs.Entries.{IsOrdered, place_of, position_of, values_by}
+use Rattle.lq_parts.specs.Taken.{IsOrdered, place_of, position_of, values_by}
 
 both : (a b : Bool) → T a → T b → T (a && b)
 both true b p q = q

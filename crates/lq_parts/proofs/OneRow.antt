@@ -5,7 +5,7 @@ use Rattle.std.specs.List.{Contains, remove}
 use Rattle.lq_base.specs.declared.value.Value.{Value}
 use Rattle.lq_base.specs.declared.value.Value.TheVariants.{Text}
 use Rattle.lq_chain.specs.Marks.{kept_rows, replaced}
-use Rattle.lq_rows.specs.Print.{ArePlaces}
+use Rattle.lq_rows.specs.Stored.{ArePlaces}
 
 same_here : nat_eq 0 0 ≡ true
 same_here = refl

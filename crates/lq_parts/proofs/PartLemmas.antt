@@ -4,12 +4,11 @@ use Rattle.std.proofs.lemmas.List.{length-reverse, reverse-append}
 use Rattle.std.specs.List.{flat_map}
 use Rattle.lq_base.specs.Name.{is_named}
 use Rattle.lq_base.specs.declared.name.Name.{Name}
-use Rattle.lq_model.specs.Catalogue.{Catalogue, sequence_of, table_of, view_of}
+use Rattle.lq_model.specs.Catalogue.{Catalogue, sequence_of, table_of, view_of, is_in}
 use Rattle.lq_model.specs.NameSpaces.{names_inside, object_names, shared_names}
-use Rattle.lq_model.specs.Names.{is_in}
 use Rattle.lq_model.proofs.Lists.{any-append}
 use Rattle.lq_model.proofs.Maps.{found}
-use Rattle.lq_parts.specs.Kept.{Kept, one_back, past_catalogues}
+use Rattle.lq_parts.specs.Taken.{Kept, one_back, past_catalogues}
 use Rattle.lq_parts.specs.declared.part.Part.{Part}
 
 -- what is recorded last is the newest

@@ -6,8 +6,7 @@ use Rattle.std.specs.List.{insert, remove}
 use Rattle.std.specs.Map.{lookup}
 use Rattle.lq_base.specs.Name.{is_named, name_cmp}
 use Rattle.lq_base.specs.declared.name.Name.{Name}
-use Rattle.lq_parts.specs.Entries.{IsOrdered, place_of}
-use Rattle.lq_parts.specs.Slots.{CanUndo, HasPlace, before, past_entries}
+use Rattle.lq_parts.specs.Taken.{IsOrdered, place_of, CanUndo, HasPlace, before, past_entries}
 use Rattle.lq_parts.specs.declared.slot.Slot.{Slot}
 use Rattle.lq_parts.specs.declared.slot.Slot.TheVariants.{Put, Taken}
 use Rattle.lq_parts.proofs.EntryLemmas.{insert-remove, insert_at_place, longer, remove-insert, shorter, within}

@@ -12,7 +12,7 @@ use Rattle.lq_chain.specs.History.{changed, marked, undone_to}
 use Rattle.lq_chain.proofs.HistoryLemmas.{undone_to-changed, undone_to-marked}
 use Rattle.lq_model.specs.Catalogue.{no_table}
 use Rattle.lq_model.proofs.Maps.{lookup-remove_entry, lookup-values}
-use Rattle.lq_parts.specs.Entries.{IsOrdered, place_of, position_of}
+use Rattle.lq_parts.specs.Taken.{IsOrdered, place_of, position_of}
 use Rattle.lq_parts.specs.Steps.{CanUndo, Entries, HasMark, HasPlace, before, edit_at, past_tables, tables_of}
 use Rattle.lq_parts.specs.declared.step.Step.{Step}
 use Rattle.lq_parts.specs.declared.step.Step.TheVariants.{Put, Renamed, Rows, Shaped, Taken}

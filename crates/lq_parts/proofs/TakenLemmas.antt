@@ -10,10 +10,8 @@ use Rattle.std.specs.declared.cmp.Ordering.TheVariants.{Equal, Greater, Less}
 use Rattle.lq_base.specs.Name.{beside, is_named, name_cmp}
 use Rattle.lq_base.specs.declared.name.Name.{Name}
 use Rattle.lq_chain.specs.History.{History, changed}
-use Rattle.lq_model.specs.Catalogue.{Table, no_table}
+use Rattle.lq_model.specs.Catalogue.{Table, no_table, is_in, foreign_names, inner_names, key_list, placed}
 use Rattle.lq_model.specs.NameSpaces.{names_inside}
-use Rattle.lq_model.specs.Names.{is_in}
-use Rattle.lq_model.specs.TableNames.{foreign_names, inner_names, key_list, placed}
 use Rattle.lq_model.specs.declared.constraint.ForeignKey.{ForeignKey}
 use Rattle.lq_model.specs.declared.constraint.Key.{Key}
 use Rattle.lq_model.specs.declared.constraint.Unique.{Unique}

@@ -1,5 +1,2 @@
-pub mod Entries
-pub mod Kept
-pub mod Slots
-pub mod Steps
 pub mod Taken
+pub mod Steps

@@ -1,10 +1,10 @@
 -- What the record of changes of the tables, the newest first, stands for.
 use Rattle.std.specs.List.{insert, remove}
-use Rattle.std.specs.Prelude.{List, None, Some, [], length, slice_get, suc, zero, ℕ, ⊤, ◌<◌, ◌≤◌, ◌∷◌}
+use Rattle.std.specs.Prelude.{List, None, Some, [], length, slice_get, suc, zero, ℕ, ⊤, ◌<◌, ◌∷◌, ◌≤◌}
 use Rattle.lq_base.specs.declared.name.Name.{Name}
 use Rattle.lq_chain.specs.History.{marked, undone_to}
 use Rattle.lq_model.specs.Catalogue.{Table}
-use Rattle.lq_parts.specs.Entries.{IsOrdered, values_by}
+use Rattle.lq_parts.specs.Taken.{IsOrdered, values_by}
 use Rattle.lq_parts.specs.declared.step.Step.{Step}
 use Rattle.lq_parts.specs.declared.step.Step.TheVariants.{Put, Renamed, Rows, Shaped, Taken}
 use Rattle.lq_rows.specs.Stored.{Stored, reshaped, rows_of, with_rows}

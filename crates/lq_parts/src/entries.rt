@@ -3,7 +3,7 @@ ghost use Rattle.std.specs.Map.{lookup};
 ghost use Rattle.std.specs.Option.{option_copied};
 ghost use Rattle.std.specs.Prelude.{◌≡◌, ◌<◌, ◌≤◌, is_some, length, true};
 ghost use Rattle.lq_base.specs.Name.{is_named};
-ghost use Rattle.lq_parts.specs.Entries.{IsOrdered, place_of, position_of};
+ghost use Rattle.lq_parts.specs.Taken.{IsOrdered, place_of, position_of};
 
 use lq_base::Name;
 

@@ -25,7 +25,7 @@ impl Model for View {
 }
 
 impl View {
-    ghost use Rattle.lq_parts.specs.Kept.{the_view};
+    ghost use Rattle.lq_parts.specs.Taken.{the_view};
 
     pub fn new(query: Query, columns: Items<Name>) -> View
         ensures { result ≡ the_view query columns }
@@ -70,7 +70,7 @@ impl Model for Sequence {
 }
 
 impl Sequence {
-    ghost use Rattle.lq_parts.specs.Kept.{the_sequence};
+    ghost use Rattle.lq_parts.specs.Taken.{the_sequence};
 
     pub fn new(start: i128, step: i128) -> Sequence
         ensures { result ≡ the_sequence start step }

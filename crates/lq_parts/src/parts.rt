@@ -5,15 +5,12 @@ ghost use Rattle.std.specs.Prelude.{◌≡◌, ◌≤◌, ◌<◌, None, [], IfO
 ghost use Rattle.lq_base.specs.Name.{is_named};
 ghost use Rattle.lq_chain.specs.History.{back, changed, history, marked, step_shorter, undone_to};
 ghost use Rattle.lq_chain.specs.Marks.{kept_rows, replaced};
-ghost use Rattle.lq_model.specs.Catalogue.{Table, no_objects, sequence_of, table_of, the_table, view_of, with_new, with_sequence, with_table, with_view, without_sequence, without_table, without_view};
+ghost use Rattle.lq_model.specs.Catalogue.{Table, no_objects, sequence_of, table_of, the_table, view_of, with_new, with_sequence, with_table, with_view, without_sequence, without_table, without_view, is_in};
 ghost use Rattle.lq_model.specs.NameSpaces.{all_foreign_names, names_inside, object_names, shared_names};
-ghost use Rattle.lq_model.specs.Names.{is_in};
-ghost use Rattle.lq_model.specs.Twin.{is_twin};
-ghost use Rattle.lq_parts.specs.Kept.{with_renamed};
+ghost use Rattle.lq_model.specs.Plan.{is_twin};
+ghost use Rattle.lq_parts.specs.Taken.{with_renamed, AreKnown};
 ghost use Rattle.lq_parts.specs.Steps.{tables_of};
-ghost use Rattle.lq_parts.specs.Taken.{AreKnown};
-ghost use Rattle.lq_rows.specs.Print.{ArePlaces};
-ghost use Rattle.lq_rows.specs.Stored.{has_values_in, shape_of, with_all, with_row, with_row_at, with_shape, without_row};
+ghost use Rattle.lq_rows.specs.Stored.{ArePlaces, has_values_in, shape_of, with_all, with_row, with_row_at, with_shape, without_row};
 
 use crate::object::{Sequence, View};
 use crate::part::Part;
@@ -53,7 +50,7 @@ impl Model for Parts {
 
     ghost coded = { Prim.hlevel (codes, test.the_row.coded) };
 
-    ghost use Rattle.lq_parts.specs.Kept.{catalogue_of, kept_as, past_catalogues};
+    ghost use Rattle.lq_parts.specs.Taken.{catalogue_of, kept_as, past_catalogues};
 
     ghost view = { λ p. history (catalogue_of (kept_as p.tables p.views p.sequences)) (past_catalogues (kept_as p.tables p.views p.sequences) (reverse p.done.items)) };
 

@@ -5,8 +5,7 @@ ghost use Rattle.std.specs.Prelude.{◌≡◌, ◌≤◌, None, [], IfOk, OnErr,
 ghost use Rattle.std.specs.Vec.{vec_capacity};
 ghost use Rattle.lq_base.specs.Name.{is_named, name_cmp};
 ghost use Rattle.lq_chain.specs.History.{back, changed, history};
-ghost use Rattle.lq_parts.specs.Entries.{IsOrdered};
-ghost use Rattle.lq_parts.specs.Slots.{HasPlace, before};
+ghost use Rattle.lq_parts.specs.Taken.{IsOrdered, HasPlace, before};
 
 use crate::entries::{find, place, standing};
 use crate::slot::Slot;
@@ -34,8 +33,7 @@ impl<T> Model for Shelf<T> {
     ghost coded = { history_code (coded_list (coded× (coded_list coded_ℕ) T.code)) };
 
     ghost use Rattle.std.specs.Vec.{vec_capacity};
-    ghost use Rattle.lq_parts.specs.Entries.{IsOrdered};
-    ghost use Rattle.lq_parts.specs.Slots.{CanUndo, past_entries};
+    ghost use Rattle.lq_parts.specs.Taken.{IsOrdered, CanUndo, past_entries};
 
     ghost view = { λ s. history s.entries.items (past_entries s.entries.items (reverse s.done.items)) };
 

@@ -8,11 +8,10 @@ ghost use Rattle.lq_base.specs.Name.{is_named, name_cmp};
 ghost use Rattle.lq_chain.specs.History.{back, changed, history, undone_to};
 ghost use Rattle.lq_chain.specs.Marks.{kept_rows, replaced};
 ghost use Rattle.lq_model.specs.Catalogue.{no_table};
-ghost use Rattle.lq_parts.specs.Entries.{IsOrdered, position_of};
+ghost use Rattle.lq_parts.specs.Taken.{IsOrdered, position_of};
 ghost use Rattle.lq_parts.specs.Steps.{HasMark, HasPlace, before, edit_at, moved, tables_of};
-ghost use Rattle.lq_rows.specs.Print.{ArePlaces};
-ghost use Rattle.lq_rows.specs.Stored.{has_values_in, reshaped, rows_of, with_all, with_row, with_row_at, with_rows, with_shape, without_row};
-ghost use Rattle.lq_model.specs.Twin.{is_twin};
+ghost use Rattle.lq_rows.specs.Stored.{ArePlaces, has_values_in, reshaped, rows_of, with_all, with_row, with_row_at, with_rows, with_shape, without_row};
+ghost use Rattle.lq_model.specs.Plan.{is_twin};
 
 use crate::entries::{find, place, standing};
 use crate::step::Step;
@@ -39,7 +38,7 @@ impl Model for Tables {
     ghost Value = { History (List (Name × Table)) };
 
     ghost use Rattle.std.specs.Vec.{vec_capacity};
-    ghost use Rattle.lq_parts.specs.Entries.{IsOrdered};
+    ghost use Rattle.lq_parts.specs.Taken.{IsOrdered};
     ghost use Rattle.lq_parts.specs.Steps.{CanUndo, past_tables, tables_of};
 
     ghost view = { λ t. history (tables_of t.entries.items) (past_tables t.entries.items (reverse t.done.items)) };

@@ -1,9 +1,9 @@
 -- Paths of the files of a changelog.
-use Rattle.std.specs.Prelude.{◌≡◌, ℕ, Bool, true, false, ◌||◌, ◌==◌, List, [], ◌∷◌, ◌++◌, Option, Some, None, option_map, option_and_then, eqb, if◌then◌else◌, codes}
 use Rattle.std.specs.List.{ends_with, slice_split, starts_with}
+use Rattle.std.specs.Prelude.{Bool, List, None, Option, Some, [], codes, eqb, false, if◌then◌else◌, option_and_then, option_map, true, ℕ, ◌++◌, ◌==◌, ◌||◌, ◌∷◌, ◌≡◌}
 use Rattle.std.specs.Str.{bytes_eq}
 use Rattle.lq_paths.specs.declared.path.Format.{Format}
-use Rattle.lq_paths.specs.declared.path.Format.TheVariants.{Json, Yaml, Sql}
+use Rattle.lq_paths.specs.declared.path.Format.TheVariants.{Json, Sql, Yaml}
 
 -- its parts between slashes
 abbrev pub parts : List ℕ → List (List ℕ)

@@ -7,7 +7,7 @@ use Rattle.std.specs.BTreeSet.{BTreeSet, Updates, contains}
 use Rattle.std.specs.List.{list_any}
 use Rattle.std.specs.Prelude.{Bool, List, Option, if◌then◌else◌, ℕ}
 use Rattle.std.specs.declared.cmp.Ordering.{Ordering}
-use Rattle.lq_base.specs.Text.{is_text, text_cmp}
+use Rattle.lq_base.specs.Name.{is_text, text_cmp}
 use Rattle.lq_base.specs.declared.identity.Identity.{Identity}
 use Rattle.lq_base.specs.declared.tracking.Tracked.{Tracked}
 use Rattle.lq_model.proofs.Lists.{named_itself, other_way, same_name}
@@ -17,9 +17,7 @@ use Rattle.lq_turns.specs.Set.{row_at}
 use Rattle.lq_turns.specs.declared.fault.Fault.{Fault}
 use Rattle.lq_turns.specs.declared.fault.Fault.TheVariants.{Twice}
 use Rattle.lq_plan.proofs.Indexed.{all_equal, its_key}
-use Rattle.lq_plan.specs.Head.{headed}
-use Rattle.lq_plan.specs.Index.{IdentityKey, key_cmp, keyed}
-use Rattle.lq_plan.specs.Seen.{HasAlso, HasSeen}
+use Rattle.lq_plan.specs.Told.{headed, IdentityKey, key_cmp, keyed, HasAlso, HasSeen}
 use Rattle.lq_plan.specs.declared.head.Head.{Head}
 
 -- identities in a set

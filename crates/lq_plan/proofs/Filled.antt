@@ -2,8 +2,8 @@
 use Rattle.std.proofs.Common.{Bool, List, None, Option, Some, codes, eqb, false, refl, true, ℕ, ◌&&◌, ◌∙◌, ◌≡◌}
 use Rattle.std.specs.List.{starts_with}
 use Rattle.std.specs.Prelude.{IfSome, if◌then◌else◌}
-use Rattle.lq_base.specs.Text.{is_text}
-use Rattle.lq_plan.specs.Head.{headed}
+use Rattle.lq_base.specs.Name.{is_text}
+use Rattle.lq_plan.specs.Told.{headed}
 use Rattle.lq_plan.specs.declared.head.Head.{Head}
 use Rattle.lq_turns.specs.Settle.{is_to_fill}
 

@@ -7,12 +7,12 @@ use Rattle.std.specs.Option.{option_copied, option_or}
 use Rattle.std.specs.Ordering.{is_eq, ordering_then}
 use Rattle.std.specs.declared.cmp.Ordering.{Ordering}
 use Rattle.std.specs.declared.cmp.Ordering.TheVariants.{Less, Equal, Greater}
-use Rattle.lq_base.specs.Text.{text_cmp}
+use Rattle.lq_base.specs.Name.{text_cmp}
 use Rattle.lq_base.specs.declared.identity.Identity.{Identity}
 use Rattle.lq_base.specs.declared.tracking.Tracked.{Tracked}
 use Rattle.lq_turns.specs.Deed.{is_of}
 use Rattle.lq_turns.specs.Set.{row_at}
-use Rattle.lq_plan.specs.Index.{HasRows, IdentityKey, KeepsAlso, kept, key_cmp, keyed}
+use Rattle.lq_plan.specs.Told.{HasRows, IdentityKey, KeepsAlso, kept, key_cmp, keyed}
 use denote.Ref.{Bor}
 
 -- behind the first ones the index has the rest

@@ -4,10 +4,9 @@ use Rattle.std.specs.Prelude.{List, ℕ}
 use Rattle.lq_base.specs.declared.identity.Identity.{Identity}
 use Rattle.lq_base.specs.declared.tracking.Tracked.{Tracked}
 use Rattle.lq_turns.specs.Faults.{faults, faults_behind}
-use Rattle.lq_turns.specs.Pending.{pending}
+use Rattle.lq_turns.specs.Printed.{pending}
 use Rattle.lq_turns.specs.Set.{Set}
-use Rattle.lq_plan.specs.Told.{HeadsTell, bare}
-use Rattle.lq_plan.specs.Work.{work, work_from}
+use Rattle.lq_plan.specs.Told.{HeadsTell, bare, work, work_from}
 
 module _ {Key : Type 0} where
   bare_faults : (earlier : List Identity) (xs : List (Set Key)) (rows : List Tracked) → faults_behind earlier (map bare xs) rows ≡ faults_behind earlier xs rows

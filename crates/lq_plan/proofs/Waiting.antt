@@ -6,10 +6,10 @@ use Rattle.std.specs.List.{cons_option}
 use Rattle.std.specs.Prelude.{List, Option, ℕ}
 use Rattle.lq_base.specs.declared.identity.Identity.{Identity}
 use Rattle.lq_base.specs.declared.tracking.Tracked.{Tracked}
-use Rattle.lq_turns.specs.Pending.{if_pending, pending}
+use Rattle.lq_turns.specs.Printed.{if_pending, pending}
 use Rattle.lq_turns.specs.Settle.{what}
 use Rattle.lq_turns.specs.declared.choice.What.{What}
-use Rattle.lq_plan.specs.Head.{headed}
+use Rattle.lq_plan.specs.Told.{headed}
 use Rattle.lq_plan.specs.declared.head.Head.{Head}
 
 cons_is : {A : Type 0} (o : Option A) (xs : List A) → cons_option o xs ≡ cons_option o [] ++ xs

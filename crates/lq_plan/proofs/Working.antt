@@ -6,8 +6,7 @@ use Rattle.std.specs.Prelude.{List, Option, ℕ}
 use Rattle.lq_base.specs.declared.tracking.Tracked.{Tracked}
 use Rattle.lq_turns.specs.Settle.{what}
 use Rattle.lq_turns.specs.declared.choice.What.{What}
-use Rattle.lq_plan.specs.Head.{headed}
-use Rattle.lq_plan.specs.Work.{item_at, work_from}
+use Rattle.lq_plan.specs.Told.{headed, item_at, work_from}
 use Rattle.lq_plan.specs.declared.head.Head.{Head}
 use Rattle.lq_plan.specs.declared.turns.Item.{Item}
 

@@ -2,7 +2,7 @@ ghost use Rattle.std.specs.Prelude.{◌≡◌, IfOk, List, OnOk};
 ghost use Rattle.std.specs.Option.{option_map};
 ghost use Rattle.lq_base.specs.declared.tracking.Tracked.{Tracked as Row};
 ghost use Rattle.lq_turns.specs.Set.{row_at};
-ghost use Rattle.lq_plan.specs.Index.{HasRows, KeepsAlso};
+ghost use Rattle.lq_plan.specs.Told.{HasRows, KeepsAlso};
 
 use lq_base::{Identity, NoMemory, Tracked};
 use std::alloc::Global;

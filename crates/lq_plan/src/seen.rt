@@ -1,6 +1,6 @@
 ghost use Rattle.std.specs.BTreeSet.{contains};
 ghost use Rattle.std.specs.Prelude.{◌≡◌, IfOk, OnOk};
-ghost use Rattle.lq_plan.specs.Seen.{HasAlso};
+ghost use Rattle.lq_plan.specs.Told.{HasAlso};
 
 use crate::row_index::IdentityKey;
 use lq_base::{Identity, NoMemory};

@@ -1,14 +1,12 @@
 ghost use Rattle.std.specs.List.{cons_option, list_any};
 ghost use Rattle.std.specs.Option.{option_map};
 ghost use Rattle.std.specs.Prelude.{◌≡◌, ◌++◌, [], IfOk, List, OnOk, codes, map};
-ghost use Rattle.lq_base.specs.Text.{is_text};
+ghost use Rattle.lq_base.specs.Name.{is_text};
 ghost use Rattle.lq_base.specs.declared.tracking.Tracked.{Tracked as Row};
-ghost use Rattle.lq_turns.specs.Pending.{if_pending, pending};
+ghost use Rattle.lq_turns.specs.Printed.{if_pending, pending};
 ghost use Rattle.lq_turns.specs.Set.{excuses, sum_by_form};
 ghost use Rattle.lq_turns.specs.Settle.{greatest, has_changed, is_to_fill, runs_again, what, what_by};
-ghost use Rattle.lq_plan.specs.Head.{headed};
-ghost use Rattle.lq_plan.specs.Index.{HasRows};
-ghost use Rattle.lq_plan.specs.Work.{item_at, work};
+ghost use Rattle.lq_plan.specs.Told.{headed, HasRows, item_at, work};
 
 use crate::head::Head;
 use crate::row_index::{RowIndex, index_of, row_at};

@@ -3,7 +3,7 @@ ghost use Rattle.std.specs.Prelude.{◌≡◌, ◌++◌, ◌∷◌, [], IfOk, Li
 ghost use Rattle.lq_turns.specs.Set.{sum_by_form};
 ghost use Rattle.lq_turns.specs.Faults.{changed_at, changed_by, faults};
 ghost use Rattle.lq_turns.specs.declared.fault.Fault.TheVariants as fault;
-ghost use Rattle.lq_plan.specs.Head.{headed};
+ghost use Rattle.lq_plan.specs.Told.{headed};
 
 use crate::head::Head;
 use crate::row_index::{index_of, row_at};

@@ -4,8 +4,8 @@ use Rattle.std.specs.List.{list_any}
 use Rattle.std.specs.Option.{option_map}
 use Rattle.std.specs.Prelude.{Bool, List, Option, Some, [], false, if◌then◌else◌, refl, true, ℕ, ◌==◌, ◌++◌, ◌||◌, ◌∷◌, ◌≡◌}
 use Rattle.lq_base.specs.declared.tracking.Lock.{Lock}
-use Rattle.lq_players.specs.Apart.{NamesAreApart}
-use Rattle.lq_run.specs.Holds.{IsHeld}
+use Rattle.lq_players.specs.AnyCommand.{NamesAreApart}
+use Rattle.lq_run.specs.Stands.{IsHeld}
 use Rattle.lq_turns.specs.declared.stamp.Stamp.{Stamp}
 
 not_true : false ≡ true → ⊥

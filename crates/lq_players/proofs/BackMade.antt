@@ -3,41 +3,39 @@ use Rattle.std.proofs.Common.{ap, inl, inr, refl, subst, sym, ◌∙◌}
 use Rattle.std.specs.List.{list_all}
 use Rattle.std.specs.Option.{option_map}
 use Rattle.std.specs.Prelude.{List, None, Option, Some, [], reverse, true, ℕ, ◌∷◌, ◌≡◌, ◌≢◌, ◌≤◌}
-use Rattle.lq_back.specs.RowTurns.{goes_back, is_deletion}
+use Rattle.lq_back.specs.Reversal.{goes_back, is_deletion}
 use Rattle.lq_back.specs.declared.row_turns.RowTurns.{RowTurns}
 use Rattle.lq_base.proofs.ValueLemmas.{and_then_some}
 use Rattle.lq_base.specs.declared.command.Command.TheVariants.{Rollback}
 use Rattle.lq_base.specs.declared.dialect.Dialect.{Dialect}
 use Rattle.lq_beside.proofs.OtherFits.{rollback_fits}
-use Rattle.lq_beside.specs.Fitting.{is_deleted, is_return}
-use Rattle.lq_beside.specs.Replays.{calls_fit}
-use Rattle.lq_players.specs.RollingBack.{AreNew, ComesTo, HasTurns, IsPlanned, back_ends, back_job, back_refusal, back_reports, back_turns, back_way, turns_end, turns_left, turns_report, turns_way}
+use Rattle.lq_beside.specs.Replays.{is_deleted, is_return, calls_fit}
+use Rattle.lq_players.specs.RollingBack.{AreNew, ComesTo, HasTurns, IsPlanned, back_ends, back_job, back_refusal, back_reports, back_turns, back_way, turns_end, turns_left, turns_report, turns_way, IsRefusal, Refuses}
 use Rattle.lq_players.proofs.Refused.{refused_so}
 use Rattle.lq_players.proofs.Reported.{reports_so}
 use Rattle.lq_players.proofs.UpdateTurns.{none_shown}
 use Rattle.lq_players.specs.Reports.{of_account, report_of, rolled_by, rolled_to}
-use Rattle.lq_players.specs.RowChecks.{IsRefusal, Refuses}
 use Rattle.lq_players.specs.Tasks.{answer_by, task_for, stop_back, stop_of, stop_to}
 use Rattle.lq_players.specs.declared.rolling_back.RollingBack.{RollingBack}
 use Rattle.lq_hand.specs.Hand.{place_of}
 use Rattle.lq_kinds.specs.declared.any_change.AnyChange.{AnyChange}
 use Rattle.lq_model.proofs.Lists.{and_left, and_right, and_true}
 use Rattle.lq_model.specs.Catalogue.{Catalogue}
-use Rattle.lq_model.specs.Statement.{is_statement}
-use Rattle.lq_playing.specs.Came.{came, nothing, only}
+use Rattle.lq_model.specs.Step.{is_statement}
+use Rattle.lq_playing.specs.Answers.{came, nothing, only}
 use Rattle.lq_playing.specs.Checked.{Checked, MakesNone, MakesTurns, Work}
 use Rattle.lq_playing.specs.declared.checks.Verdict.TheVariants as verdict
 use Rattle.lq_playing.specs.declared.checks.Verdict.{Verdict}
 use Rattle.lq_run.specs.Commands.{script}
 use Rattle.lq_run.specs.Steps.{no_turn}
-use Rattle.lq_seen.specs.Printing.{Account, of_turns}
+use Rattle.lq_seen.specs.Telling.{Account, of_turns}
 use Rattle.lq_seen.specs.View.{any_meaning, view_log, views}
 use Rattle.lq_track.specs.Database.{Database}
-use Rattle.lq_turns.specs.Contents.{contents_of}
-use Rattle.lq_turns.specs.Held.{StandsFor}
+use Rattle.lq_turns.specs.Deed.{contents_of}
+use Rattle.lq_turns.specs.Schedule.{StandsFor}
 use Rattle.lq_turns.specs.Laws.{rollback_calls}
 use Rattle.lq_turns.specs.Rest.{OfRows, Place, Turns}
-use Rattle.lq_turns.specs.Rollback.{all_rolled, rollback_of, rows_kept, rows_undone, undo_turns}
+use Rattle.lq_turns.specs.Script.{all_rolled, rollback_of, rows_kept, rows_undone, undo_turns}
 use Rattle.lq_turns.specs.Session.{session_on}
 use Rattle.lq_turns.specs.Set.{Set}
 use Rattle.lq_turns.specs.declared.answer.Answer.TheVariants.{Done}

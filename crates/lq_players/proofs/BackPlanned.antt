@@ -8,8 +8,7 @@ use Rattle.lq_base.specs.declared.command.Target.{Target}
 use Rattle.lq_base.specs.declared.dialect.Dialect.{Dialect}
 use Rattle.lq_base.specs.declared.tracking.Tracked.{Tracked}
 use Rattle.lq_players.proofs.RowsRead.{both_pass, first_refuses, lack_is_refusal, lack_refuses, passes_so, second_refuses}
-use Rattle.lq_players.specs.RollingBack.{AreNew, Plans, are_read, back_turns, turns_in}
-use Rattle.lq_players.specs.RowChecks.{IsRefusal, Passes, Refuses}
+use Rattle.lq_players.specs.RollingBack.{AreNew, Plans, are_read, back_turns, turns_in, IsRefusal, Passes, Refuses}
 use Rattle.lq_players.specs.Tasks.{if_not, invalid, unreachable_by}
 use Rattle.lq_players.specs.declared.rolling_back.RollingBack.{RollingBack}
 use Rattle.lq_expr.specs.declared.options.Options.{Options}
@@ -17,7 +16,7 @@ use Rattle.lq_kinds.specs.declared.any_change.AnyChange.{AnyChange}
 use Rattle.lq_playing.specs.declared.checks.Verdict.TheVariants as verdict
 use Rattle.lq_playing.specs.declared.checks.Verdict.{Verdict}
 use Rattle.lq_seen.specs.View.{any_meaning, view_log, views}
-use Rattle.lq_turns.specs.Rollback.{not_reversible, rows_kept, rows_undone, undo_turn, undo_turns}
+use Rattle.lq_turns.specs.Script.{not_reversible, rows_kept, rows_undone, undo_turn, undo_turns}
 use Rattle.lq_turns.specs.Set.{Changelog, Set}
 use Rattle.lq_turns.specs.declared.answer.Answer.TheVariants.{NoTarget}
 use Rattle.lq_turns.specs.declared.answer.Answer.{Answer}

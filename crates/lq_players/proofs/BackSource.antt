@@ -2,20 +2,19 @@
 use Rattle.std.proofs.Common.{ap, subst, sym, ◌∙◌}
 use Rattle.std.specs.List.{list_all}
 use Rattle.std.specs.Prelude.{None, Option, Some, [], reverse, true, ◌≡◌}
-use Rattle.lq_back.specs.RowTurns.{goes_back, row_way}
+use Rattle.lq_back.specs.Reversal.{goes_back, row_way}
 use Rattle.lq_back.specs.declared.row_turns.RowTurns.{RowTurns}
 use Rattle.lq_base.specs.declared.dialect.Dialect.{Dialect}
 use Rattle.lq_players.specs.RollingBack.{IsRead, are_read, back_way, turns_left, turns_way}
 use Rattle.lq_players.specs.declared.rolling_back.RollingBack.{RollingBack}
-use Rattle.lq_hand.specs.Enters.{Enters}
-use Rattle.lq_hand.specs.Way.{GivesUp, Looks}
+use Rattle.lq_hand.specs.Way.{Enters, GivesUp, Looks}
 use Rattle.lq_hand.specs.declared.source.Entered.TheVariants.{NoTurn}
 use Rattle.lq_hand.specs.declared.source.Entered.{Entered}
 use Rattle.lq_kinds.specs.declared.any_change.AnyChange.{AnyChange}
 use Rattle.lq_model.specs.Catalogue.{Catalogue}
-use Rattle.lq_seen.specs.Printing.{Account}
+use Rattle.lq_seen.specs.Telling.{Account}
 use Rattle.lq_seen.specs.View.{any_meaning}
-use Rattle.lq_turns.specs.Contents.{Contents, contents_of}
+use Rattle.lq_turns.specs.Deed.{Contents, contents_of}
 use Rattle.lq_turns.specs.Rest.{OfRows, Turns}
 use Rattle.lq_turns.specs.declared.stamp.Stamp.{Stamp}
 

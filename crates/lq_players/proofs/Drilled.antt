@@ -6,25 +6,22 @@ use Rattle.std.specs.Option.{option_map}
 use Rattle.std.specs.Prelude.{All, Bool, List, None, Some, [], false, not, slice_get, suc, true, ℕ, ◌++◌, ◌∷◌, ◌≡◌, ◌≢◌}
 use Rattle.lq_base.specs.declared.command.Command.TheVariants.{Release}
 use Rattle.lq_base.specs.declared.dialect.Dialect.{Dialect}
-use Rattle.lq_players.specs.AnyCommand.{IsUnstarted, command_stands}
-use Rattle.lq_players.specs.Drilling.{BeginInTurn, HaveTasks, NoneReleases, works}
+use Rattle.lq_players.specs.AnyCommand.{IsUnstarted, command_stands, BeginInTurn, HaveTasks, NoneReleases, works, NamesAreApart}
 use Rattle.lq_players.specs.Reports.{report_of}
 use Rattle.lq_players.specs.Tasks.{answer_by, refuses, stop_of}
 use Rattle.lq_players.specs.declared.any_command.AnyCommand.{AnyCommand}
 use Rattle.lq_drill.specs.Drill.{Begins, Each, IsNew, IsReady}
 use Rattle.lq_kinds.specs.declared.any_change.AnyChange.{AnyChange}
 use Rattle.lq_model.proofs.Lists.{and_left, and_right, and_true}
-use Rattle.lq_players.specs.Apart.{NamesAreApart}
-use Rattle.lq_playing.specs.Came.{as_busy, as_locked, came, only}
+use Rattle.lq_playing.specs.Answers.{as_busy, as_locked, came, only}
 use Rattle.lq_playing.specs.Checked.{Work}
 use Rattle.lq_playing.specs.declared.came.Came.{Came}
 use Rattle.lq_seen.specs.View.{any_meaning}
-use Rattle.lq_store.specs.State.{State, is_open}
+use Rattle.lq_store.specs.Journal.{State, is_open}
 use Rattle.lq_track.specs.Database.{Database}
 use Rattle.lq_turns.proofs.Jobs.{only_releases_are_early}
-use Rattle.lq_turns.specs.Held.{StandsFor}
+use Rattle.lq_turns.specs.Schedule.{StandsFor, Machine, all_moved, moved, start}
 use Rattle.lq_turns.specs.Jobs.{Task}
-use Rattle.lq_turns.specs.Schedule.{Machine, all_moved, moved, start}
 use Rattle.lq_turns.specs.Serial.{is_early, none_early}
 
 -- commands that are to start are ready for a drill

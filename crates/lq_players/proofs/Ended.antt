@@ -3,7 +3,7 @@ use Rattle.std.proofs.Common.{ap, refl, subst, sym, ◌∙◌}
 use Rattle.std.specs.Prelude.{IfOk, None, Option, Result, Some, ◌≡◌}
 use Rattle.lq_base.specs.declared.identity.Identity.{Identity}
 use Rattle.lq_base.specs.declared.memory.NoMemory.{NoMemory}
-use Rattle.lq_players.specs.AtEnd.{end_answer, halt_answer, refusal_answer}
+use Rattle.lq_players.specs.Updating.{end_answer, halt_answer, refusal_answer}
 use Rattle.lq_players.specs.Syncing.{stop_at}
 use Rattle.lq_players.specs.Tasks.{answer_by}
 use Rattle.lq_seen.specs.Telling.{stop_told}

@@ -2,7 +2,7 @@
 use Rattle.std.proofs.Common.{ap, inl, inr, refl, subst, sym, ◌∙◌}
 use Rattle.std.specs.Option.{option_map}
 use Rattle.std.specs.Prelude.{Bool, List, None, Option, Some, [], false, if◌then◌else◌, length, map, true, ℕ, ◌++◌, ◌∷◌, ◌≡◌, ◌≤◌}
-use Rattle.lq_base.specs.Character.{char_count}
+use Rattle.lq_base.specs.Number.{char_count}
 use Rattle.lq_base.specs.declared.dialect.Dialect.{Dialect}
 use Rattle.lq_base.specs.declared.identity.Identity.{Identity}
 use Rattle.lq_base.specs.declared.tracking.Lock.{Lock}
@@ -10,7 +10,7 @@ use Rattle.lq_base.specs.declared.tracking.Tracked.{Tracked}
 use Rattle.lq_beside.proofs.OtherFits.{release_fits, tag_fits}
 use Rattle.lq_beside.specs.Replays.{calls_fit}
 use Rattle.lq_players.specs.AtOnce.{OnceChecked, answer_to, call_of, command_of, freeing, listed_by, listing, once_ends, once_reports, once_way, only_looks, releasing, sets_of, tagging}
-use Rattle.lq_players.specs.InTables.{HasLock, HasRows}
+use Rattle.lq_players.specs.Syncing.{HasLock, HasRows}
 use Rattle.lq_players.specs.Tasks.{if_some, untagged, work_of}
 use Rattle.lq_players.specs.declared.at_once.AtOnce.{AtOnce}
 use Rattle.lq_players.specs.declared.at_once.OneStep.TheVariants as step
@@ -18,8 +18,7 @@ use Rattle.lq_players.specs.declared.at_once.OneStep.{OneStep}
 use Rattle.lq_model.proofs.Lists.{and_left}
 use Rattle.lq_model.specs.Catalogue.{Catalogue}
 use Rattle.lq_model.specs.declared.caller.Room.TheVariants.{Ordinary, Release}
-use Rattle.lq_playing.specs.Answers.{is_failure}
-use Rattle.lq_playing.specs.Came.{came, nothing, only}
+use Rattle.lq_playing.specs.Answers.{is_failure, came, nothing, only}
 use Rattle.lq_playing.specs.Checked.{AnswersAtOnce, Checked, MakesOne, Work}
 use Rattle.lq_playing.specs.declared.came.Report.{Report}
 use Rattle.lq_playing.specs.declared.checks.OneCall.{OneCall}
@@ -32,8 +31,8 @@ use Rattle.lq_track.specs.Log.{identity_of}
 use Rattle.lq_turns.proofs.AtOnce.{release_leaves, tag_leaves}
 use Rattle.lq_turns.specs.Deed.{tagged}
 use Rattle.lq_turns.specs.Faults.{faults}
-use Rattle.lq_turns.specs.Held.{StandsFor, all_fit}
-use Rattle.lq_turns.specs.Pending.{pending}
+use Rattle.lq_turns.specs.Schedule.{StandsFor, all_fit}
+use Rattle.lq_turns.specs.Printed.{pending}
 use Rattle.lq_turns.specs.Rest.{NoMore}
 use Rattle.lq_turns.specs.Script.{closing, last_row, release_calls, tag_calls, tag_of}
 use Rattle.lq_turns.specs.Session.{left_by, session_on}

@@ -14,15 +14,15 @@ use Rattle.lq_players.specs.AtOnce.{command_of}
 use Rattle.lq_players.specs.Tasks.{if_halts, if_not, if_some, refuses, task_for, unreachable_by, untagged, work_of}
 use Rattle.lq_players.specs.declared.at_once.OneStep.TheVariants as step
 use Rattle.lq_players.specs.declared.at_once.OneStep.{OneStep}
-use Rattle.lq_playing.specs.Came.{answer_of, came, has_ended, only}
+use Rattle.lq_playing.specs.Answers.{answer_of, came, has_ended, only}
 use Rattle.lq_playing.specs.declared.came.Came.{Came}
 use Rattle.lq_playing.specs.declared.came.Report.{Report}
 use Rattle.lq_seen.specs.View.{any_meaning}
 use Rattle.lq_track.specs.Database.{Database}
-use Rattle.lq_turns.specs.Contents.{contents_of}
+use Rattle.lq_turns.specs.Deed.{contents_of}
 use Rattle.lq_turns.specs.Faults.{faults}
 use Rattle.lq_turns.specs.Jobs.{Task}
-use Rattle.lq_turns.specs.Rollback.{not_reversible, rows_kept, rows_undone}
+use Rattle.lq_turns.specs.Script.{not_reversible, rows_kept, rows_undone}
 use Rattle.lq_turns.specs.Set.{Changelog}
 use Rattle.lq_turns.specs.Settle.{own_choice}
 use Rattle.lq_turns.specs.declared.answer.Answer.TheVariants as answer

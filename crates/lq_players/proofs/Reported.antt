@@ -2,9 +2,8 @@
 use Rattle.std.proofs.Common.{ap, ◌∙◌}
 use Rattle.std.specs.Prelude.{Option, ◌≡◌}
 use Rattle.lq_players.specs.Reports.{of_account, of_outcome}
-use Rattle.lq_playing.specs.Came.{nothing}
-use Rattle.lq_seen.specs.Printing.{Account}
-use Rattle.lq_seen.specs.Telling.{Reports, bounded}
+use Rattle.lq_playing.specs.Answers.{nothing}
+use Rattle.lq_seen.specs.Telling.{Account, Reports, bounded}
 use Rattle.lq_seen.specs.declared.outcome.Outcome.{Outcome}
 use Rattle.lq_turns.specs.declared.stop.Refusal.{Refusal}
 

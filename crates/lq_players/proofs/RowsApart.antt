@@ -7,7 +7,7 @@ use Rattle.std.specs.List.{find, list_all, list_any}
 use Rattle.std.specs.Option.{option_or}
 use Rattle.std.specs.Prelude.{Bool, List, None, Option, Some, [], cond, false, length, nat_eq, nat_le, nat_lt, true, ℕ, ◌++◌, ◌<◌, ◌∷◌, ◌≡◌, ◌≤◌, ◌||◌}
 use Rattle.lq_base.specs.declared.tracking.Tracked.{Tracked}
-use Rattle.lq_players.specs.RowOrder.{follows, has_order, is_first, stand_behind}
+use Rattle.lq_players.specs.AnyCommand.{follows, has_order, is_first, stand_behind}
 use Rattle.lq_model.proofs.Lists.{and_left, and_right, and_true, any-append, or_false, or_left, or_right, true_false}
 use Rattle.lq_model.proofs.Maps.{some_same}
 use Rattle.lq_track.specs.Database.{has_twin_rows, same_identity}

@@ -2,7 +2,7 @@
 use Rattle.std.proofs.Common.{ap, subst, sym, ◌∙◌}
 use Rattle.std.specs.Option.{option_or}
 use Rattle.std.specs.Prelude.{Err, IfErr, List, None, Option, Result, Some, [], refl, ◌∷◌, ◌≡◌}
-use Rattle.lq_players.specs.RowChecks.{IsRefusal, Passes, Refuses}
+use Rattle.lq_players.specs.RollingBack.{IsRefusal, Passes, Refuses}
 use Rattle.lq_players.specs.Tasks.{if_some}
 use Rattle.lq_playing.specs.declared.checks.Verdict.TheVariants as verdict
 use Rattle.lq_playing.specs.declared.checks.Verdict.{Verdict}

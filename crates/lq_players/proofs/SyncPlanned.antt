@@ -2,7 +2,7 @@
 use Rattle.std.proofs.Common.{ap, inl, inr, refl, rules, subst, sym, tests, ◌∙◌}
 use Rattle.std.proofs.lemmas.List.{length_push}
 use Rattle.std.specs.Prelude.{Bool, Err, List, None, Ok, Option, Result, Some, [], false, if◌then◌else◌, length, map, nat_lt, option_map, true, ℕ, ◌&&◌, ◌+◌, ◌++◌, ◌<◌, ◌∷◌, ◌≡◌, ◌≢◌, ◌≤◌}
-use Rattle.lq_back.specs.SyncTurn.{insert_call, sync_calls}
+use Rattle.lq_back.specs.Reversal.{insert_call, sync_calls}
 use Rattle.lq_base.specs.declared.dialect.Dialect.{Dialect}
 use Rattle.lq_base.specs.declared.identity.Identity.{Identity}
 use Rattle.lq_base.specs.declared.run.Happened.{Happened}
@@ -11,23 +11,20 @@ use Rattle.lq_base.specs.declared.reason.Reason.{Reason}
 use Rattle.lq_base.specs.declared.tracking.Tracked.{Tracked}
 use Rattle.lq_beside.proofs.OtherFits.{sync_fits}
 use Rattle.lq_beside.specs.Replays.{calls_fit}
-use Rattle.lq_players.specs.InTables.{HasRows}
+use Rattle.lq_players.specs.Syncing.{HasRows, FitColumns, Inserts, Plans, PlansFor, PlansOn, PlansRows, SyncChecked, goes_in, planned, refusal_in, refused_at, stop_at, sync_ends, sync_job, sync_log, sync_way, verdict_of}
 use Rattle.lq_players.specs.Reports.{of_account}
-use Rattle.lq_players.specs.Syncing.{FitColumns, Inserts, Plans, PlansFor, PlansOn, PlansRows, SyncChecked, goes_in, planned, refusal_in, refused_at, stop_at, sync_ends, sync_job, sync_log, sync_way, verdict_of}
 use Rattle.lq_players.specs.Tasks.{answer_by, if_some}
 use Rattle.lq_players.specs.declared.syncing.Plan.TheVariants as plan
 use Rattle.lq_players.specs.declared.syncing.Plan.{Plan}
 use Rattle.lq_players.specs.declared.syncing.Syncing.{Syncing}
-use Rattle.lq_hand.specs.Counts.{coming_of, no_progress, with_accepted}
+use Rattle.lq_hand.specs.Way.{coming_of, no_progress, with_accepted, Way, refused_by, refused_in}
 use Rattle.lq_hand.specs.Hand.{calls_left, hand_place, place_of}
-use Rattle.lq_hand.specs.Way.{Way, refused_by, refused_in}
 use Rattle.lq_hand.specs.declared.hand.Hand.{Hand}
 use Rattle.lq_hand.specs.declared.progress.Progress.{Progress}
 use Rattle.lq_kinds.specs.declared.any_change.AnyChange.{AnyChange}
 use Rattle.lq_model.proofs.Lists.{and_right}
 use Rattle.lq_model.specs.Catalogue.{Catalogue}
-use Rattle.lq_playing.specs.Answers.{is_failure}
-use Rattle.lq_playing.specs.Came.{came, nothing, only}
+use Rattle.lq_playing.specs.Answers.{is_failure, came, nothing, only}
 use Rattle.lq_playing.specs.Checked.{AnswersAtOnce, IsInHand, MakesTurns, Work}
 use Rattle.lq_playing.specs.declared.came.Came.{Came}
 use Rattle.lq_playing.specs.declared.checks.Verdict.{Verdict}
@@ -38,17 +35,15 @@ use Rattle.lq_run.specs.Steps.{KnownIn}
 use Rattle.lq_seen.specs.View.{any_meaning}
 use Rattle.lq_track.specs.Database.{Database}
 use Rattle.lq_track.specs.Log.{identity_of}
-use Rattle.lq_turns.specs.Contents.{Contents, contents_of}
-use Rattle.lq_turns.specs.Deed.{contents_after, has_place, if_accepted, rows_after}
+use Rattle.lq_turns.specs.Deed.{Contents, contents_of, contents_after, has_place, if_accepted, rows_after}
 use Rattle.lq_turns.specs.Faults.{faults}
-use Rattle.lq_turns.specs.Goes.{accepted_by, are_accepted}
-use Rattle.lq_turns.specs.Held.{StandsFor}
+use Rattle.lq_turns.specs.Session.{accepted_by, are_accepted, session_on}
+use Rattle.lq_turns.specs.Schedule.{StandsFor}
 use Rattle.lq_turns.specs.Rest.{NoMore}
 use Rattle.lq_turns.specs.Script.{rows_to_sync, sync_of, with_lock}
-use Rattle.lq_turns.specs.Session.{session_on}
 use Rattle.lq_turns.specs.Set.{Set}
 use Rattle.lq_turns.specs.Settle.{Settled}
-use Rattle.lq_turns.specs.Synced.{insert_stop, marked_by, stop_then, synced_by}
+use Rattle.lq_turns.specs.Laws.{insert_stop, marked_by, stop_then, synced_by}
 use Rattle.lq_turns.specs.Turn.{made}
 use Rattle.lq_turns.specs.declared.answer.Answer.TheVariants.{Invalid}
 use Rattle.lq_turns.specs.declared.answer.Answer.{Answer}

@@ -6,7 +6,7 @@ use Rattle.lq_base.specs.declared.dialect.Dialect.{Dialect}
 use Rattle.lq_base.specs.declared.tracking.Lock.{Lock}
 use Rattle.lq_base.specs.declared.tracking.Tracked.{Tracked}
 use Rattle.lq_beside.proofs.TablesRead.{map_some}
-use Rattle.lq_players.specs.InTables.{HasLock, HasRows}
+use Rattle.lq_players.specs.Syncing.{HasLock, HasRows}
 use Rattle.lq_model.specs.Catalogue.{Catalogue}
 use Rattle.lq_track.specs.Database.{Database, lock_of, rows_of}
 

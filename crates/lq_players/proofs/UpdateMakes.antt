@@ -10,25 +10,21 @@ use Rattle.lq_players.proofs.Refused.{refused_so}
 use Rattle.lq_players.proofs.Reported.{reports_so}
 use Rattle.lq_players.proofs.Results.{ok_map}
 use Rattle.lq_players.proofs.UpdateTurns.{calls_are, comes_to, idle_comes, kept, no_calls, passes_all}
-use Rattle.lq_players.specs.AtEnd.{end_answer}
+use Rattle.lq_players.specs.Updating.{end_answer, HasTurns, HaveTurns, IsAskedFor, IsOwn, IsPlanFor, IsPlanned, Plans, account_of, log_of, task_of, warning, Follows, IsUpdateFor, TakesTurns, ends_in, job_by, left_in, report_in, update_ends, update_job, update_reports, update_way, way_in}
 use Rattle.lq_players.specs.Reports.{of_account, own_warned}
-use Rattle.lq_players.specs.RowChecks.{IsRefusal}
+use Rattle.lq_players.specs.RollingBack.{IsRefusal}
 use Rattle.lq_players.specs.Tasks.{answer_by, work_of}
-use Rattle.lq_players.specs.UpdateChecks.{HasTurns, HaveTurns, IsAskedFor, IsOwn, IsPlanFor, IsPlanned, Plans, account_of, log_of, task_of, warning}
-use Rattle.lq_players.specs.Updating.{Follows, IsUpdateFor, TakesTurns, ends_in, job_by, left_in, report_in, update_ends, update_job, update_reports, update_way, way_in}
 use Rattle.lq_players.specs.declared.update_checks.Asked.{Asked}
 use Rattle.lq_players.specs.declared.update_checks.Planned.TheVariants as planned
 use Rattle.lq_players.specs.declared.update_checks.Planned.{Planned}
 use Rattle.lq_players.specs.declared.updating.Updating.{Updating}
-use Rattle.lq_hand.specs.Counts.{no_progress}
-use Rattle.lq_hand.specs.Enters.{Enters}
+use Rattle.lq_hand.specs.Way.{no_progress, Enters, GivesUp, Looks}
 use Rattle.lq_hand.specs.Hand.{calls_left, place_of}
-use Rattle.lq_hand.specs.Way.{GivesUp, Looks}
 use Rattle.lq_hand.specs.declared.source.Entered.{Entered}
 use Rattle.lq_hand.specs.declared.source.Entered.TheVariants.{Lack}
 use Rattle.lq_kinds.specs.declared.any_change.AnyChange.{AnyChange}
 use Rattle.lq_model.specs.Catalogue.{Catalogue}
-use Rattle.lq_playing.specs.Came.{came}
+use Rattle.lq_playing.specs.Answers.{came}
 use Rattle.lq_playing.specs.Checked.{Checked, MakesNone, MakesTurns, Work}
 use Rattle.lq_playing.specs.declared.came.Report.{Report}
 use Rattle.lq_playing.specs.declared.checks.Verdict.TheVariants as verdict
@@ -36,14 +32,14 @@ use Rattle.lq_playing.specs.declared.checks.Verdict.{Verdict}
 use Rattle.lq_run.specs.Commands.{both_on, script}
 use Rattle.lq_run.specs.Steps.{KnownIn, no_turn}
 use Rattle.lq_seen.proofs.Read.{views_are_read}
-use Rattle.lq_seen.specs.Printing.{Account}
+use Rattle.lq_seen.specs.Telling.{Account}
 use Rattle.lq_seen.specs.View.{any_meaning}
 use Rattle.lq_sets.specs.SetTurns.{IsReadFor, set_way, sets_left}
 use Rattle.lq_sets.specs.declared.set_turns.SetTurns.{SetTurns}
 use Rattle.lq_track.specs.Database.{Database, has_twin_rows}
-use Rattle.lq_turns.specs.Contents.{Contents, contents_of}
+use Rattle.lq_turns.specs.Deed.{Contents, contents_of}
 use Rattle.lq_turns.specs.Faults.{faults}
-use Rattle.lq_turns.specs.Held.{StandsFor}
+use Rattle.lq_turns.specs.Schedule.{StandsFor}
 use Rattle.lq_turns.specs.Rest.{OfSets}
 use Rattle.lq_turns.specs.Script.{has_work, update_calls}
 use Rattle.lq_turns.specs.Session.{session_on}

@@ -10,9 +10,9 @@ use Rattle.lq_base.specs.declared.run.Printed.{Printed}
 use Rattle.lq_base.specs.declared.run.Why.{Why}
 use Rattle.lq_base.specs.declared.tracking.Tracked.{Tracked}
 use Rattle.lq_players.specs.Reports.{of_account, own_warned, updated_in}
-use Rattle.lq_players.specs.RowChecks.{Refuses}
+use Rattle.lq_players.specs.RollingBack.{Refuses}
 use Rattle.lq_players.specs.Tasks.{answer_by, if_halts, if_some, invalid, own_halt, work_of}
-use Rattle.lq_players.specs.UpdateChecks.{ArePlaced, HasPlanned, HasTurns, IsOwn, IsPlanFor, Plans, PlansOn, account_of, log_of, task_of, update_refusal, warning, with_warned}
+use Rattle.lq_players.specs.Updating.{ArePlaced, HasPlanned, HasTurns, IsOwn, IsPlanFor, Plans, PlansOn, account_of, log_of, task_of, update_refusal, warning, with_warned}
 use Rattle.lq_players.specs.declared.update_checks.Asked.{Asked}
 use Rattle.lq_players.specs.declared.update_checks.Planned.TheVariants as planned
 use Rattle.lq_players.specs.declared.update_checks.Planned.{Planned}
@@ -20,20 +20,20 @@ use Rattle.lq_kinds.specs.AnyChangeLaws.{does, restores, spelled}
 use Rattle.lq_kinds.specs.declared.any_change.AnyChange.{AnyChange}
 use Rattle.lq_model.specs.Catalogue.{Catalogue}
 use Rattle.lq_model.specs.declared.statement.Statement.{Statement}
-use Rattle.lq_plan.specs.Work.{item_at, work_from}
+use Rattle.lq_plan.specs.Told.{item_at, work_from}
 use Rattle.lq_plan.specs.declared.turns.Item.{Item}
-use Rattle.lq_playing.specs.Came.{came, only}
+use Rattle.lq_playing.specs.Answers.{came, only}
 use Rattle.lq_playing.specs.declared.came.Report.{Report}
 use Rattle.lq_playing.specs.declared.checks.Verdict.TheVariants as verdict
 use Rattle.lq_playing.specs.declared.checks.Verdict.{Verdict}
-use Rattle.lq_seen.specs.Printing.{Account, of_sets, shown}
+use Rattle.lq_seen.specs.Telling.{Account, of_sets, shown}
 use Rattle.lq_seen.specs.View.{any_meaning}
 use Rattle.lq_sets.specs.SetTurns.{Knows, sets_left}
 use Rattle.lq_sets.specs.declared.set_turns.SetTurns.{SetTurns}
 use Rattle.lq_track.specs.Database.{Database}
-use Rattle.lq_turns.specs.Contents.{Contents, contents_of}
+use Rattle.lq_turns.specs.Deed.{Contents, contents_of}
 use Rattle.lq_turns.specs.Faults.{faults}
-use Rattle.lq_turns.specs.Held.{StandsFor}
+use Rattle.lq_turns.specs.Schedule.{StandsFor}
 use Rattle.lq_turns.specs.Printed.{printed, printed_of}
 use Rattle.lq_turns.specs.Script.{has_work, sets_calls, update_calls, with_lock}
 use Rattle.lq_turns.specs.Set.{Changelog, IsKept, Meaning, Set}

@@ -1,40 +1,40 @@
 -- A command that ends with its first step: it makes one call, or none.
 use Rattle.std.specs.Prelude.{Bool, List, None, Option, Some, [], false, true, ℕ, ◌∷◌, ◌≤◌}
-use Rattle.lq_base.specs.Character.{char_count}
-use Rattle.lq_base.specs.declared.command.Command.TheVariants as command
+use Rattle.lq_base.specs.Number.{char_count}
 use Rattle.lq_base.specs.declared.command.Command.{Command}
+use Rattle.lq_base.specs.declared.command.Command.TheVariants as command
 use Rattle.lq_base.specs.declared.dialect.Dialect.{Dialect}
 use Rattle.lq_base.specs.declared.identity.Identity.{Identity}
 use Rattle.lq_base.specs.declared.tracking.Lock.{Lock}
 use Rattle.lq_base.specs.declared.tracking.Tracked.{Tracked}
+use Rattle.lq_hand.specs.Way.{Way}
+use Rattle.lq_kinds.specs.declared.any_change.AnyChange.{AnyChange}
+use Rattle.lq_model.specs.Catalogue.{Catalogue}
+use Rattle.lq_model.specs.declared.caller.Room.{Room}
+use Rattle.lq_model.specs.declared.caller.Room.TheVariants.{Ordinary, Release}
 use Rattle.lq_players.specs.Reports.{if_held}
 use Rattle.lq_players.specs.Tasks.{task_for, work_of}
 use Rattle.lq_players.specs.declared.at_once.AtOnce.{AtOnce}
 use Rattle.lq_players.specs.declared.at_once.Found.{Found}
-use Rattle.lq_players.specs.declared.at_once.OneStep.TheVariants as step
 use Rattle.lq_players.specs.declared.at_once.OneStep.{OneStep}
-use Rattle.lq_hand.specs.Way.{Way}
-use Rattle.lq_kinds.specs.declared.any_change.AnyChange.{AnyChange}
-use Rattle.lq_model.specs.Catalogue.{Catalogue}
-use Rattle.lq_model.specs.declared.caller.Room.TheVariants.{Ordinary, Release}
-use Rattle.lq_model.specs.declared.caller.Room.{Room}
-use Rattle.lq_playing.specs.Came.{came, nothing}
+use Rattle.lq_players.specs.declared.at_once.OneStep.TheVariants as step
+use Rattle.lq_playing.specs.Answers.{came, nothing}
 use Rattle.lq_playing.specs.Checked.{Checked, Work}
 use Rattle.lq_playing.specs.declared.came.Came.{Came}
 use Rattle.lq_playing.specs.declared.came.Report.{Report}
 use Rattle.lq_playing.specs.declared.checks.OneCall.{OneCall}
-use Rattle.lq_playing.specs.declared.checks.Verdict.TheVariants as verdict
 use Rattle.lq_playing.specs.declared.checks.Verdict.{Verdict}
-use Rattle.lq_run.specs.NoChanges.{nothing_told}
+use Rattle.lq_playing.specs.declared.checks.Verdict.TheVariants as verdict
+use Rattle.lq_run.specs.Stands.{nothing_told}
 use Rattle.lq_seen.specs.View.{any_meaning, view_log}
 use Rattle.lq_track.specs.Log.{identity_of}
-use Rattle.lq_turns.specs.Pending.{pending}
+use Rattle.lq_turns.specs.Printed.{pending}
 use Rattle.lq_turns.specs.Rest.{NoMore}
 use Rattle.lq_turns.specs.Set.{Set}
-use Rattle.lq_turns.specs.declared.answer.Answer.TheVariants.{Done, Invalid, NoTarget}
 use Rattle.lq_turns.specs.declared.answer.Answer.{Answer}
-use Rattle.lq_turns.specs.declared.deed.Deed.TheVariants.{Locks, Rows}
+use Rattle.lq_turns.specs.declared.answer.Answer.TheVariants.{Done, Invalid, NoTarget}
 use Rattle.lq_turns.specs.declared.deed.Deed.{Deed}
+use Rattle.lq_turns.specs.declared.deed.Deed.TheVariants.{Locks, Rows}
 use Rattle.lq_turns.specs.declared.deed.OnLock.TheVariants.{Freed}
 use Rattle.lq_turns.specs.declared.deed.OnRows.TheVariants.{Tagged}
 use Rattle.lq_turns.specs.declared.fault.Fault.{Fault}

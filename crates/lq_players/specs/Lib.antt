@@ -1,15 +1,7 @@
-pub mod Apart
 pub mod Reports
 pub mod Tasks
-pub mod Waiting
-pub mod InTables
-pub mod AtEnd
-pub mod RowChecks
-pub mod RowOrder
 pub mod AtOnce
-pub mod Syncing
 pub mod RollingBack
-pub mod UpdateChecks
+pub mod Syncing
 pub mod Updating
 pub mod AnyCommand
-pub mod Drilling

@@ -7,22 +7,21 @@ use Rattle.lq_base.specs.declared.run.Why.{Why}
 use Rattle.lq_base.specs.declared.tracking.Lock.{Lock}
 use Rattle.lq_base.specs.declared.tracking.Tracked.{Tracked}
 use Rattle.lq_kinds.specs.declared.any_change.AnyChange.{AnyChange}
-use Rattle.lq_playing.specs.Came.{nothing}
+use Rattle.lq_playing.specs.Answers.{nothing}
 use Rattle.lq_playing.specs.declared.came.Report.{Report}
-use Rattle.lq_seen.specs.Printing.{Account, of_sets, of_turns}
-use Rattle.lq_seen.specs.Telling.{bounded}
+use Rattle.lq_seen.specs.Telling.{Account, bounded, of_sets, of_turns}
 use Rattle.lq_seen.specs.View.{any_meaning}
 use Rattle.lq_seen.specs.declared.outcome.Outcome.{Outcome}
 use Rattle.lq_track.specs.Database.{Database}
-use Rattle.lq_turns.specs.Contents.{Contents, contents_of}
+use Rattle.lq_turns.specs.Deed.{Contents, contents_of}
 use Rattle.lq_turns.specs.Jobs.{Task}
-use Rattle.lq_turns.specs.Pending.{pending}
-use Rattle.lq_turns.specs.Rollback.{rows_kept, rows_undone, undo_turns}
+use Rattle.lq_turns.specs.Laws.{synced}
+use Rattle.lq_turns.specs.Printed.{pending}
+use Rattle.lq_turns.specs.Script.{rows_kept, rows_undone, undo_turns}
 use Rattle.lq_turns.specs.Set.{Changelog}
 use Rattle.lq_turns.specs.Settle.{is_halt, nothing_done, own_choice, updated}
-use Rattle.lq_turns.specs.Synced.{synced}
-use Rattle.lq_turns.specs.declared.choice.Choice.TheVariants.{Fills, Halts, Marks, Passes, Runs, Skips}
 use Rattle.lq_turns.specs.declared.choice.Choice.{Choice}
+use Rattle.lq_turns.specs.declared.choice.Choice.TheVariants.{Fills, Halts, Marks, Passes, Runs, Skips}
 use Rattle.lq_turns.specs.declared.turn.Turn.{Turn}
 
 -- of what its turns settle, and of what is printed of them

@@ -1,38 +1,61 @@
--- A rollback as a player: it waits for its checks, and then has its turns.
+-- Checks of a command on the rows of tracking.
 use Rattle.std.specs.List.{list_all}
 use Rattle.std.specs.Option.{option_or}
 use Rattle.std.specs.Prelude.{Bool, Err, List, None, Ok, Option, Result, Some, [], false, option_and_then, reverse, true, ◌≡◌, ◌≢◌}
-use Rattle.lq_back.specs.RowTurns.{LeadsBack, goes_back, row_way}
+use Rattle.lq_back.specs.Reversal.{LeadsBack, goes_back, row_way}
 use Rattle.lq_back.specs.declared.row_turns.RowTurns.{RowTurns}
 use Rattle.lq_base.specs.declared.command.Command.TheVariants.{Rollback}
 use Rattle.lq_base.specs.declared.dialect.Dialect.{Dialect}
 use Rattle.lq_base.specs.declared.tracking.Tracked.{Tracked}
-use Rattle.lq_players.specs.Reports.{of_outcome}
-use Rattle.lq_players.specs.RowChecks.{Refuses}
-use Rattle.lq_players.specs.Tasks.{answer_by, invalid, task_for, unreachable_by, work_of}
-use Rattle.lq_players.specs.Waiting.{unaware}
-use Rattle.lq_players.specs.declared.rolling_back.RollingBack.{RollingBack}
 use Rattle.lq_hand.specs.Way.{Way}
-use Rattle.lq_kinds.specs.Dialects.{AreFor}
+use Rattle.lq_kinds.specs.AnyChange.{AreFor}
 use Rattle.lq_kinds.specs.declared.any_change.AnyChange.{AnyChange}
-use Rattle.lq_playing.specs.Came.{came, nothing}
+use Rattle.lq_players.specs.Reports.{of_outcome}
+use Rattle.lq_players.specs.Tasks.{answer_by, invalid, task_for, unaware, unreachable_by, work_of}
+use Rattle.lq_players.specs.declared.rolling_back.RollingBack.{RollingBack}
+use Rattle.lq_playing.specs.Answers.{came, is_failure, nothing}
 use Rattle.lq_playing.specs.Checked.{Work}
 use Rattle.lq_playing.specs.declared.came.Came.{Came}
 use Rattle.lq_playing.specs.declared.came.Report.{Report}
-use Rattle.lq_playing.specs.declared.checks.Verdict.TheVariants as verdict
 use Rattle.lq_playing.specs.declared.checks.Verdict.{Verdict}
+use Rattle.lq_playing.specs.declared.checks.Verdict.TheVariants as verdict
 use Rattle.lq_run.specs.Steps.{no_turn}
-use Rattle.lq_seen.specs.Printing.{Account, of_turns}
-use Rattle.lq_seen.specs.Telling.{stop_told}
+use Rattle.lq_seen.specs.Telling.{Account, of_turns, stop_told}
 use Rattle.lq_seen.specs.View.{any_meaning, view_log, views}
-use Rattle.lq_turns.specs.Contents.{Contents}
+use Rattle.lq_turns.specs.Deed.{Contents}
 use Rattle.lq_turns.specs.Rest.{NoMore, OfRows, Turns}
-use Rattle.lq_turns.specs.Rollback.{rows_kept, rows_undone, undo_turns}
-use Rattle.lq_turns.specs.declared.answer.Answer.TheVariants.{Done}
+use Rattle.lq_turns.specs.Script.{rows_kept, rows_undone, undo_turns}
 use Rattle.lq_turns.specs.declared.answer.Answer.{Answer}
+use Rattle.lq_turns.specs.declared.answer.Answer.TheVariants.{Done}
 use Rattle.lq_turns.specs.declared.stamp.Stamp.{Stamp}
 use Rattle.lq_turns.specs.declared.stop.Refusal.{Refusal}
 use Rattle.lq_turns.specs.declared.turn.Turn.{Turn}
+
+-- the command is refused without a call, or there was no memory
+abbrev pub IsRefusal : Verdict → Type 0
+IsRefusal (verdict.Answer a) = is_failure a ≡ false
+IsRefusal verdict.Lack = Unit {0}
+IsRefusal (verdict.OneCall call) = ⊥
+IsRefusal (verdict.Turns hand) = ⊥
+
+-- for what it is to be refused
+abbrev pub Refuses : Option Answer → Verdict → Type 0
+Refuses refusal (verdict.Answer a) = refusal ≡ Some a
+Refuses refusal verdict.Lack = Unit {0}
+Refuses refusal (verdict.OneCall call) = ⊥
+Refuses refusal (verdict.Turns hand) = ⊥
+
+-- where no memory is asked for, a check answers just so
+abbrev pub judged : Option Answer → Result (Unit {0}) Verdict
+judged None = Ok tt
+judged (Some refused) = Err (verdict.Answer refused)
+
+-- so a check answers
+abbrev pub Passes : {A : Type 0} → Option Answer → Result A Verdict → Type 0
+Passes refusal (Ok a) = refusal ≡ None
+Passes refusal (Err v) = Refuses refusal v
+
+-- A rollback as a player: it waits for its checks, and then has its turns.
 
 -- its turns, where it has any
 

@@ -1,45 +1,57 @@
--- A changelog-sync, whose one turn inserts a row for each selected changeset without one.
+-- What is read from the tracking tables that are seen.
 use Rattle.std.specs.List.{All}
 use Rattle.std.specs.Prelude.{Bool, List, None, Option, Some, [], false, nat_lt, true, ℕ, ◌&&◌, ◌∷◌, ◌≡◌, ◌≢◌}
-use Rattle.lq_back.specs.SyncTurn.{sync_calls}
+use Rattle.lq_back.specs.Reversal.{sync_calls}
 use Rattle.lq_base.specs.declared.command.Command.TheVariants.{Sync}
 use Rattle.lq_base.specs.declared.dialect.Dialect.{Dialect}
 use Rattle.lq_base.specs.declared.identity.Identity.{Identity}
 use Rattle.lq_base.specs.declared.run.Happened.{Happened}
+use Rattle.lq_base.specs.declared.tracking.Lock.{Lock}
 use Rattle.lq_base.specs.declared.tracking.Tracked.{Tracked}
-use Rattle.lq_beside.specs.Fitting.{HasTexts}
-use Rattle.lq_players.specs.InTables.{HasRows}
-use Rattle.lq_players.specs.Tasks.{answer_by, task_for, work_of}
-use Rattle.lq_players.specs.declared.syncing.Plan.TheVariants as plan
-use Rattle.lq_players.specs.declared.syncing.Plan.{Plan}
-use Rattle.lq_players.specs.declared.syncing.Syncing.{Syncing}
+use Rattle.lq_beside.specs.Replays.{HasTexts}
 use Rattle.lq_hand.specs.Hand.{AreTurns, calls_left}
 use Rattle.lq_hand.specs.Way.{Way}
 use Rattle.lq_hand.specs.declared.hand.Hand.{Hand}
 use Rattle.lq_hand.specs.declared.hand.Phase.TheVariants as phase
 use Rattle.lq_kinds.specs.declared.any_change.AnyChange.{AnyChange}
 use Rattle.lq_model.specs.Catalogue.{Catalogue}
-use Rattle.lq_playing.specs.Came.{came, nothing}
+use Rattle.lq_players.specs.Tasks.{answer_by, task_for, work_of}
+use Rattle.lq_players.specs.declared.syncing.Plan.{Plan}
+use Rattle.lq_players.specs.declared.syncing.Plan.TheVariants as plan
+use Rattle.lq_players.specs.declared.syncing.Syncing.{Syncing}
+use Rattle.lq_playing.specs.Answers.{came, nothing}
 use Rattle.lq_playing.specs.Checked.{Checked, Work}
 use Rattle.lq_playing.specs.declared.came.Came.{Came}
 use Rattle.lq_playing.specs.declared.came.Report.{Report}
-use Rattle.lq_playing.specs.declared.checks.Verdict.TheVariants as verdict
 use Rattle.lq_playing.specs.declared.checks.Verdict.{Verdict}
+use Rattle.lq_playing.specs.declared.checks.Verdict.TheVariants as verdict
 use Rattle.lq_seen.specs.View.{any_meaning, view_log}
+use Rattle.lq_track.specs.Database.{Database}
 use Rattle.lq_turns.specs.Deed.{has_place}
 use Rattle.lq_turns.specs.Faults.{faults}
+use Rattle.lq_turns.specs.Laws.{insert_stop, marked_by}
 use Rattle.lq_turns.specs.Rest.{NoMore}
+use Rattle.lq_turns.specs.Schedule.{StandsFor}
 use Rattle.lq_turns.specs.Script.{rows_to_sync}
 use Rattle.lq_turns.specs.Set.{Changelog, Set}
 use Rattle.lq_turns.specs.Settle.{Settled}
-use Rattle.lq_turns.specs.Synced.{insert_stop, marked_by}
-use Rattle.lq_turns.specs.declared.answer.Answer.TheVariants.{Done, Invalid}
 use Rattle.lq_turns.specs.declared.answer.Answer.{Answer}
+use Rattle.lq_turns.specs.declared.answer.Answer.TheVariants.{Done, Invalid}
 use Rattle.lq_turns.specs.declared.fault.Fault.{Fault}
 use Rattle.lq_turns.specs.declared.stamp.Stamp.{Stamp}
 use Rattle.lq_turns.specs.declared.stop.Refusal.{Refusal}
-use Rattle.lq_turns.specs.declared.stop.Stop.TheVariants.{Halted, Refused}
 use Rattle.lq_turns.specs.declared.stop.Stop.{Stop}
+use Rattle.lq_turns.specs.declared.stop.Stop.TheVariants.{Halted, Refused}
+
+-- each database that is seen has these rows
+abbrev pub HasRows : Dialect → Catalogue → List Tracked → Type 0
+HasRows d seen rows = (database : Database) → StandsFor d seen database → database.rows ≡ rows
+
+-- and this lock
+abbrev pub HasLock : Dialect → Catalogue → Lock → Type 0
+HasLock d seen lock = (database : Database) → StandsFor d seen database → database.lock ≡ lock
+
+-- A changelog-sync, whose one turn inserts a row for each selected changeset without one.
 
 abbrev pub sync_log : Syncing → Changelog AnyChange
 sync_log it = view_log it.options it.changelog

@@ -1,35 +1,36 @@
 -- The commands as players: what each is refused for, and what it answers at its end.
 use Rattle.std.specs.Option.{option_map, option_or}
 use Rattle.std.specs.Prelude.{Bool, List, None, Option, Some, [], ℕ, ◌∷◌}
-use Rattle.lq_base.specs.declared.command.Command.TheVariants as command
 use Rattle.lq_base.specs.declared.command.Command.{Command}
+use Rattle.lq_base.specs.declared.command.Command.TheVariants as command
 use Rattle.lq_base.specs.declared.dialect.Dialect.{Dialect}
 use Rattle.lq_base.specs.declared.identity.Identity.{Identity}
 use Rattle.lq_base.specs.declared.tracking.Tracked.{Tracked}
 use Rattle.lq_expr.specs.declared.options.Options.{Options}
+use Rattle.lq_hand.specs.Way.{Way}
 use Rattle.lq_kinds.specs.declared.any_change.AnyChange.{AnyChange}
 use Rattle.lq_kinds.specs.declared.change_set.Changelog.{Changelog as Files}
 use Rattle.lq_players.specs.Reports.{report_of}
-use Rattle.lq_playing.specs.Came.{as_busy, as_locked, came, only}
+use Rattle.lq_playing.specs.Answers.{as_busy, as_locked, came, only}
 use Rattle.lq_playing.specs.Checked.{Work}
 use Rattle.lq_playing.specs.declared.came.Came.{Came}
 use Rattle.lq_seen.specs.View.{any_meaning, view_log}
 use Rattle.lq_track.specs.Database.{Database}
-use Rattle.lq_turns.specs.Contents.{Contents, contents_of}
+use Rattle.lq_turns.specs.Deed.{Contents, contents_of}
 use Rattle.lq_turns.specs.Faults.{faults}
 use Rattle.lq_turns.specs.Jobs.{Task, job_of}
-use Rattle.lq_turns.specs.Rollback.{all_rolled, not_reversible, rows_kept, rows_undone, undo_turns}
+use Rattle.lq_turns.specs.Laws.{synced}
+use Rattle.lq_turns.specs.Script.{all_rolled, not_reversible, rows_kept, rows_undone, undo_turns}
 use Rattle.lq_turns.specs.Set.{Changelog}
 use Rattle.lq_turns.specs.Settle.{own_choice, updated}
-use Rattle.lq_turns.specs.Synced.{synced}
-use Rattle.lq_turns.specs.declared.answer.Answer.TheVariants as answer
 use Rattle.lq_turns.specs.declared.answer.Answer.{Answer}
-use Rattle.lq_turns.specs.declared.choice.Choice.TheVariants.{Halts}
+use Rattle.lq_turns.specs.declared.answer.Answer.TheVariants as answer
 use Rattle.lq_turns.specs.declared.choice.Choice.{Choice}
+use Rattle.lq_turns.specs.declared.choice.Choice.TheVariants.{Halts}
 use Rattle.lq_turns.specs.declared.fault.Fault.{Fault}
 use Rattle.lq_turns.specs.declared.stamp.Stamp.{Stamp}
-use Rattle.lq_turns.specs.declared.stop.Stop.TheVariants.{Halted, Refused}
 use Rattle.lq_turns.specs.declared.stop.Stop.{Stop}
+use Rattle.lq_turns.specs.declared.stop.Stop.TheVariants.{Halted, Refused}
 use Rattle.lq_turns.specs.declared.turn.Turn.{Turn}
 
 abbrev pub if_some : List Fault → Option Answer
@@ -107,3 +108,9 @@ task_for command options g stamp = record { command = command; changelog = view_
 -- what it is refused for is all that it comes to; or it tells what it did
 abbrev pub work_of : Bool → Dialect → Task AnyChange → Work
 work_of prints d task = job_of Came as_locked as_busy d any_meaning (λ it database. option_map only (refuses d it database)) (λ it database. came (report_of prints d it database) (answer_by (stop_of d it database))) task
+
+-- A command whose checks are to come.
+
+-- no contents are known yet
+abbrev pub unaware : Way
+unaware = record { knows = λ c. ⊥; awaits = λ sees c. ⊥; yields = λ goes_on refusal c. ⊥; tells = λ refused. ⊥; lacks = ⊥ }

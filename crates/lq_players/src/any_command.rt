@@ -3,21 +3,21 @@ ghost use Rattle.std.specs.Option.{option_copied};
 ghost use Rattle.std.specs.Prelude.{◌≡◌, ◌≤◌, Bool, Err, IsTrue, None, option_map};
 ghost use Rattle.lq_base.specs.declared.command.Command.TheVariants as command;
 ghost use Rattle.lq_base.specs.declared.tracking.Lock.{Lock};
-ghost use Rattle.lq_beside.specs.Fitting.{HasTexts};
-ghost use Rattle.lq_changelog.specs.ShortTexts.{HasShortTexts};
-ghost use Rattle.lq_playing.specs.Came.{answer_of, came};
+ghost use Rattle.lq_beside.specs.Replays.{HasTexts};
+ghost use Rattle.lq_changelog.specs.Gathers.{HasShortTexts};
+ghost use Rattle.lq_playing.specs.Answers.{answer_of, came};
 ghost use Rattle.lq_playing.specs.Under.{IsPlain};
 ghost use Rattle.lq_drill.specs.Player.{LeavesAll};
 ghost use Rattle.lq_players.specs.AnyCommand.{IsUnstarted, Starts, command_stands};
 ghost use Rattle.lq_players.specs.AtOnce.{HasShortTag, command_of};
 ghost use Rattle.lq_players.specs.Tasks.{task_for, work_of};
 ghost use Rattle.lq_drill.specs.declared.fault.DrillFault.TheVariants as drill;
-ghost use Rattle.lq_kinds.specs.Dialects.{AreFor};
-ghost use Rattle.lq_outside.specs.Count.{Rose};
+ghost use Rattle.lq_kinds.specs.AnyChange.{AreFor};
+ghost use Rattle.lq_outside.specs.Forms.{Rose};
 ghost use Rattle.lq_playing.specs.Playing.{Took};
-ghost use Rattle.lq_run.specs.Holds.{IsHeld};
+ghost use Rattle.lq_run.specs.Stands.{IsHeld};
 ghost use Rattle.lq_seen.specs.View.{view_log};
-ghost use Rattle.lq_store.specs.State.{is_open};
+ghost use Rattle.lq_store.specs.Journal.{is_open};
 
 use crate::at_once::{AtOnce, OneStep};
 use crate::rolling_back::RollingBack;
@@ -232,9 +232,9 @@ fn sync(
 }
 
 impl Player for AnyCommand {
-    ghost use Rattle.lq_changelog.specs.ShortTexts.{HasShortTexts};
+    ghost use Rattle.lq_changelog.specs.Gathers.{HasShortTexts};
     ghost use Rattle.lq_players.specs.AnyCommand.{command_locked, command_stands};
-    ghost use Rattle.lq_playing.specs.Came.{as_busy, as_failed, as_locked};
+    ghost use Rattle.lq_playing.specs.Answers.{as_busy, as_failed, as_locked};
 
     type Answer = Came;
 

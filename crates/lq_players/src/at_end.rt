@@ -1,5 +1,5 @@
 ghost use Rattle.std.specs.Prelude.{◌≡◌, IfOk, false};
-ghost use Rattle.lq_players.specs.AtEnd.{end_answer, halt_answer, refusal_answer};
+ghost use Rattle.lq_players.specs.Updating.{end_answer, halt_answer, refusal_answer};
 ghost use Rattle.lq_players.specs.Reports.{of_outcome};
 ghost use Rattle.lq_playing.specs.Answers.{is_failure};
 

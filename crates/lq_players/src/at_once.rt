@@ -1,5 +1,5 @@
 ghost use Rattle.std.specs.Prelude.{◌≡◌, ◌≤◌, IfOk, true};
-ghost use Rattle.lq_base.specs.Character.{char_count};
+ghost use Rattle.lq_base.specs.Number.{char_count};
 ghost use Rattle.lq_players.specs.AtOnce.{HasShortTag, OnceChecked, answer_to, call_of, command_of, freeing, listed_by, listing, only_looks, releasing, sets_of, tagging};
 ghost use Rattle.lq_players.specs.Reports.{if_held};
 ghost use Rattle.lq_players.specs.declared.at_once.OneStep.TheVariants as step;

@@ -1,15 +1,14 @@
 ghost use Rattle.std.specs.Prelude.{◌≡◌, ◌≤◌, All, Err, IfErr, IsTrue, None, Ok, length, true, ℕ};
-ghost use Rattle.lq_players.specs.AnyCommand.{IsUnstarted, command_stands};
-ghost use Rattle.lq_players.specs.Drilling.{BeginInTurn, HaveTasks, NoneReleases, works};
+ghost use Rattle.lq_players.specs.AnyCommand.{IsUnstarted, command_stands, BeginInTurn, HaveTasks, NoneReleases, works};
 ghost use Rattle.lq_drill.specs.Drill.{Each, EndsAs, FailsBy, IsDrilled, IsDrilledUntil, IsFaultless, IsSerialDrill, LeftAtEnd, LeftInDrill};
 ghost use Rattle.lq_drill.specs.Player.{HasMet};
 ghost use Rattle.lq_drill.specs.declared.fault.DrillFault.TheVariants as fault;
 ghost use Rattle.lq_kinds.specs.declared.any_change.AnyChange.{AnyChange};
-ghost use Rattle.lq_outside.specs.Count.{Rose};
-ghost use Rattle.lq_playing.specs.Came.{as_failed};
-ghost use Rattle.lq_store.specs.Crashes.{CrashesLeave};
+ghost use Rattle.lq_outside.specs.Forms.{Rose};
+ghost use Rattle.lq_playing.specs.Answers.{as_failed};
+ghost use Rattle.lq_store.specs.Journal.{CrashesLeave};
 ghost use Rattle.lq_track.specs.Database.{Database};
-ghost use Rattle.lq_turns.specs.Held.{StandsFor};
+ghost use Rattle.lq_turns.specs.Schedule.{StandsFor};
 ghost use Rattle.lq_turns.specs.Jobs.{Task};
 
 use crate::any_command::AnyCommand;

@@ -1,5 +1,5 @@
 ghost use Rattle.std.specs.Prelude.{◌≡◌, IfOk};
-ghost use Rattle.lq_players.specs.InTables.{HasLock, HasRows};
+ghost use Rattle.lq_players.specs.Syncing.{HasLock, HasRows};
 ghost use Rattle.lq_track.specs.Log.{identity_of};
 
 use lq_base::{Dialect, Identity, Items, Lock, NoMemory, Tracked};

@@ -2,16 +2,15 @@ ghost use Rattle.std.specs.Prelude.{◌≡◌, IfErr, IfOk, None, Some, option_m
 ghost use Rattle.lq_back.specs.Reversal.{AreWays};
 ghost use Rattle.lq_base.specs.declared.command.Command.TheVariants.{Rollback};
 ghost use Rattle.lq_base.specs.declared.dialect.Dialect.{Dialect as Kind};
-ghost use Rattle.lq_players.specs.RollingBack.{AreNew, IsRead, ComesTo, Plans, back_job, back_turns, turns_in};
-ghost use Rattle.lq_players.specs.RowChecks.{IsRefusal, Passes};
+ghost use Rattle.lq_players.specs.RollingBack.{AreNew, IsRead, ComesTo, Plans, back_job, back_turns, turns_in, IsRefusal, Passes};
 ghost use Rattle.lq_players.specs.Tasks.{if_not, task_for, unreachable_by, work_of};
 ghost use Rattle.lq_expr.specs.declared.options.Options.{Options as Asked};
-ghost use Rattle.lq_kinds.specs.Dialects.{AreFor};
+ghost use Rattle.lq_kinds.specs.AnyChange.{AreFor};
 ghost use Rattle.lq_playing.specs.declared.checks.Verdict.TheVariants as verdict;
 ghost use Rattle.lq_seen.specs.View.{any_meaning, view_log, views};
 ghost use Rattle.lq_track.specs.Database.{Database};
-ghost use Rattle.lq_turns.specs.Held.{StandsFor};
-ghost use Rattle.lq_turns.specs.Rollback.{not_reversible, rows_kept, rows_undone, undo_turns};
+ghost use Rattle.lq_turns.specs.Schedule.{StandsFor};
+ghost use Rattle.lq_turns.specs.Script.{not_reversible, rows_kept, rows_undone, undo_turns};
 ghost use Rattle.lq_turns.specs.declared.answer.Answer.TheVariants.{NoTarget};
 ghost use Rattle.lq_turns.specs.declared.stamp.Stamp.{Stamp as Clocked};
 
@@ -209,7 +208,7 @@ fn first_verdict(alloc: Global, turns: &Option<RowTurns>) -> Verdict
 impl Source for RollingBack {
     ghost use Rattle.lq_kinds.specs.declared.any_change.AnyChange.{AnyChange};
     ghost use Rattle.lq_players.specs.RollingBack.{IsRead, back_way, turns_left};
-    ghost use Rattle.lq_seen.specs.Printing.{Account};
+    ghost use Rattle.lq_seen.specs.Telling.{Account};
     ghost use Rattle.lq_seen.specs.View.{any_meaning};
 
     ghost Key = { AnyChange };

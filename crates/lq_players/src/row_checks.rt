@@ -1,5 +1,5 @@
 ghost use Rattle.std.specs.Prelude.{◌≡◌, IfErr, IfOk};
-ghost use Rattle.lq_players.specs.RowChecks.{IsRefusal, Passes, judged};
+ghost use Rattle.lq_players.specs.RollingBack.{IsRefusal, Passes, judged};
 ghost use Rattle.lq_players.specs.Tasks.{if_some, invalid};
 ghost use Rattle.lq_seen.specs.View.{view_log};
 

@@ -1,7 +1,7 @@
 ghost use Rattle.std.specs.Prelude.{◌≡◌, IfOk, List, false, true};
 ghost use Rattle.lq_base.specs.declared.tracking.Tracked.{Tracked as Row};
-ghost use Rattle.lq_players.specs.RowOrder.{follows, is_first, stand_behind};
-ghost use Rattle.lq_plan.specs.Index.{HasRows};
+ghost use Rattle.lq_players.specs.AnyCommand.{follows, is_first, stand_behind};
+ghost use Rattle.lq_plan.specs.Told.{HasRows};
 ghost use Rattle.lq_track.specs.Database.{has_twin_rows};
 
 use lq_base::{NoMemory, Tracked};

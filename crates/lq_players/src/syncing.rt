@@ -1,12 +1,12 @@
 ghost use Rattle.std.specs.Option.{option_copied};
 ghost use Rattle.std.specs.Prelude.{◌≡◌, ◌≤◌, IfOk, Some, false, option_map};
-ghost use Rattle.lq_back.specs.SyncTurn.{AreDated};
+ghost use Rattle.lq_back.specs.Reversal.{AreDated};
 ghost use Rattle.lq_players.specs.Syncing.{PlansFor, PlansOn, PlansRows, goes_in, planned, refused_at, stop_at, verdict_of};
 ghost use Rattle.lq_players.specs.Tasks.{answer_by};
 ghost use Rattle.lq_playing.specs.Answers.{is_failure};
 ghost use Rattle.lq_seen.specs.View.{view_log};
 ghost use Rattle.lq_track.specs.Log.{identity_of};
-ghost use Rattle.lq_turns.specs.Synced.{insert_stop};
+ghost use Rattle.lq_turns.specs.Laws.{insert_stop};
 
 use crate::at_end::refusal_answer;
 use crate::in_tables::{identity_of, rows_in};

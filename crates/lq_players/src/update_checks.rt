@@ -1,14 +1,14 @@
 ghost use Rattle.std.specs.Prelude.{◌≡◌, [], Err, IfErr, IfOk, false};
-ghost use Rattle.lq_kinds.specs.Dialects.{AreFor};
+ghost use Rattle.lq_kinds.specs.AnyChange.{AreFor};
 ghost use Rattle.lq_players.specs.Reports.{own_warned, warned_by};
-ghost use Rattle.lq_players.specs.RowChecks.{IsRefusal, Refuses};
+ghost use Rattle.lq_players.specs.RollingBack.{IsRefusal, Refuses};
 ghost use Rattle.lq_players.specs.Tasks.{if_halts, own_halt};
-ghost use Rattle.lq_players.specs.UpdateChecks.{ArePlaced, HasPlanned, IsAskedFor, IsOwn, IsPlanFor, Plans, PlansOn, log_of, update_refusal, warning, with_warned};
+ghost use Rattle.lq_players.specs.Updating.{ArePlaced, HasPlanned, IsAskedFor, IsOwn, IsPlanFor, Plans, PlansOn, log_of, update_refusal, warning, with_warned};
 ghost use Rattle.lq_players.specs.declared.update_checks.Planned.TheVariants as planned;
 ghost use Rattle.lq_playing.specs.declared.checks.Verdict.TheVariants.{Lack};
 ghost use Rattle.lq_track.specs.Database.{Database};
 ghost use Rattle.lq_turns.specs.Faults.{faults};
-ghost use Rattle.lq_turns.specs.Held.{StandsFor};
+ghost use Rattle.lq_turns.specs.Schedule.{StandsFor};
 ghost use Rattle.lq_turns.specs.Settle.{is_halt};
 
 use crate::in_tables::rows_in;

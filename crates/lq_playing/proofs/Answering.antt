@@ -3,18 +3,16 @@ use Rattle.std.proofs.Common.{ap, inl, inr, subst, sym, ◌∙◌}
 use Rattle.std.specs.Prelude.{Bool, Err, None, Ok, Option, Result, Some, false, is_some, refl, true, ℕ, ◌≡◌}
 use Rattle.lq_base.specs.declared.tracking.Lock.{Lock}
 use Rattle.lq_drill.specs.Player.{EndsBy, Moves, MovesSafely, Standing}
-use Rattle.lq_drill.specs.Shows.{LetsBe}
+use Rattle.lq_drill.specs.Faults.{LetsBe}
 use Rattle.lq_drill.specs.declared.fault.DrillFault.{DrillFault}
 use Rattle.lq_drill.specs.declared.fault.DrillFault.TheVariants as drill
-use Rattle.lq_playing.specs.Answers.{AnswersAs, failure_of, is_failure, tells_locked}
-use Rattle.lq_playing.specs.Came.{as_busy, as_failed, as_locked, came}
+use Rattle.lq_playing.specs.Answers.{AnswersAs, failure_of, is_failure, tells_locked, as_busy, as_failed, as_locked, came}
 use Rattle.lq_playing.specs.declared.came.Came.{Came}
 use Rattle.lq_playing.specs.declared.came.Report.{Report}
 use Rattle.lq_playing.proofs.Told.{some_none}
 use Rattle.lq_playing.specs.Playing.{Took}
 use Rattle.lq_run.specs.Beside.{Beside}
-use Rattle.lq_store.specs.Crashes.{Crashes}
-use Rattle.lq_store.specs.State.{State, is_open}
+use Rattle.lq_store.specs.Journal.{Crashes, State, is_open}
 use Rattle.lq_turns.specs.declared.answer.Answer.{Answer}
 use Rattle.lq_turns.specs.declared.answer.Answer.TheVariants as answer
 use Rattle.lq_turns.specs.declared.answer.Answer.TheVariants.{Locked}

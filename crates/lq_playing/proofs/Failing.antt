@@ -4,10 +4,8 @@ use Rattle.std.specs.Prelude.{Bool, Err, List, None, Option, Some, [], false, is
 use Rattle.lq_base.specs.declared.dialect.Dialect.{Dialect}
 use Rattle.lq_base.specs.declared.tracking.Lock.{Lock}
 use Rattle.lq_drill.proofs.FreedOnce.{frees_lock}
-use Rattle.lq_drill.specs.Faults.{Falls, HasCause, Meets, last_calls}
-use Rattle.lq_drill.specs.Player.{IsDue, Moves, MovesAs, Plays, Rests, Standing}
-use Rattle.lq_drill.specs.Player.{answer_of as told_by}
-use Rattle.lq_drill.specs.Shows.{Shows}
+use Rattle.lq_drill.specs.Faults.{Falls, HasCause, Meets, last_calls, Shows}
+use Rattle.lq_drill.specs.Player.{IsDue, Moves, MovesAs, Plays, Rests, Standing, answer_of as told_by}
 use Rattle.lq_drill.specs.declared.fault.DrillFault.{DrillFault}
 use Rattle.lq_drill.specs.declared.fault.DrillFault.TheVariants as drill
 use Rattle.lq_hand.specs.Way.{Way}
@@ -21,29 +19,24 @@ use Rattle.lq_playing.proofs.Laters.{there as is_there}
 use Rattle.lq_playing.proofs.Machines.{Held, IsToCall, Runs, next_called}
 use Rattle.lq_playing.proofs.Marks.{bare_none, last_shut, not_both}
 use Rattle.lq_playing.proofs.Shown.{shut_none}
-use Rattle.lq_playing.specs.Answers.{FailsAs, fault_of}
-use Rattle.lq_playing.specs.Came.{as_busy, as_failed, as_locked}
+use Rattle.lq_playing.specs.Answers.{FailsAs, fault_of, as_busy, as_failed, as_locked}
 use Rattle.lq_playing.specs.Checked.{Work}
-use Rattle.lq_playing.specs.Hindered.{IsFree}
-use Rattle.lq_playing.specs.Under.{IsPlain, IsUnder, bare}
+use Rattle.lq_playing.specs.Under.{IsFree, IsPlain, IsUnder, bare}
 use Rattle.lq_playing.specs.declared.came.Came.{Came}
 use Rattle.lq_run.specs.Does.{Faults}
 use Rattle.lq_run.specs.Ends.{AllHoldOn, HoldsOn}
-use Rattle.lq_run.specs.Holds.{IsBare, IsHeld, IsMarked}
-use Rattle.lq_run.specs.Moves.{Goes}
-use Rattle.lq_run.specs.Moves.{Meets as MeetsFault}
-use Rattle.lq_run.specs.Steps.{Closes, Ends, EndsStep, IsThere, Steps, end_of, last_end, place}
-use Rattle.lq_run.specs.Steps.{Standing as Command}
+use Rattle.lq_run.specs.Stands.{IsBare, IsHeld, IsMarked}
+use Rattle.lq_run.specs.Moves.{Goes, Meets as MeetsFault}
+use Rattle.lq_run.specs.Steps.{Closes, Ends, EndsStep, IsThere, Steps, end_of, last_end, place, Standing as Command}
 use Rattle.lq_run.specs.declared.runner.End.{End}
 use Rattle.lq_run.specs.declared.runner.Step.TheVariants as step
-use Rattle.lq_store.specs.State.{State, is_open}
+use Rattle.lq_store.specs.Journal.{State, is_open}
 use Rattle.lq_track.specs.Lock.{free as free_lock}
-use Rattle.lq_turns.specs.Rest.{NoMore, Over, between, rest}
+use Rattle.lq_turns.specs.Rest.{NoMore, Over, between, rest, both_of}
 use Rattle.lq_turns.specs.Schedule.{moved}
 use Rattle.lq_turns.specs.Script.{closing}
 use Rattle.lq_turns.specs.Session.{Session, called, room_of}
 use Rattle.lq_turns.specs.Set.{Meaning}
-use Rattle.lq_turns.specs.Stepped.{both_of}
 use Rattle.lq_turns.specs.declared.call.Call.{Call}
 use Rattle.lq_turns.specs.declared.call.Call.TheVariants.{Abort, Alone, Begin, Commit, Execute}
 use Rattle.lq_turns.specs.declared.stamp.Stamp.{Stamp}

@@ -4,28 +4,23 @@ use Rattle.std.proofs.lemmas.List.{append-nil}
 use Rattle.std.specs.Option.{option_map}
 use Rattle.std.specs.Prelude.{List, None, Option, Some, [], if◌then◌else◌, nat_eq, refl, true, ℕ, ◌++◌, ◌∷◌, ◌≡◌}
 use Rattle.lq_base.specs.declared.dialect.Dialect.{Dialect}
-use Rattle.lq_drill.specs.Faults.{HasCause, HasNoRoom, gives_up, last_calls, left_with}
+use Rattle.lq_drill.specs.Faults.{HasCause, HasNoRoom, gives_up, last_calls, left_with, IsHolders, LeftBetween, Shows, entries_of}
 use Rattle.lq_drill.specs.Player.{Brings, answer_of, held_by}
-use Rattle.lq_drill.specs.Shows.{IsHolders, LeftBetween, Shows, entries_of}
 use Rattle.lq_drill.specs.declared.fault.DrillFault.{DrillFault}
 use Rattle.lq_model.specs.declared.caller.Room.{Room}
 use Rattle.lq_model.specs.declared.fault.StoreFault.{StoreFault}
 use Rattle.lq_model.specs.declared.fault.StoreFault.TheVariants as fault
 use Rattle.lq_playing.proofs.Machines.{Held, IsToCall, Runs, holder_is, moved_adds, next_appended, own_number}
 use Rattle.lq_playing.proofs.Shown.{nothing_more}
-use Rattle.lq_playing.specs.Answers.{fault_of}
-use Rattle.lq_playing.specs.Came.{as_busy, as_failed, as_locked}
+use Rattle.lq_playing.specs.Answers.{fault_of, as_busy, as_failed, as_locked}
 use Rattle.lq_playing.specs.Checked.{Work}
 use Rattle.lq_playing.specs.Under.{bare}
 use Rattle.lq_playing.specs.declared.came.Came.{Came}
 use Rattle.lq_run.proofs.Since.{front_of_map}
 use Rattle.lq_run.specs.Crashing.{LeftInCall}
-use Rattle.lq_run.specs.Does.{Breaks, Faults}
-use Rattle.lq_run.specs.Does.{HasNoRoom as NoRoom}
-use Rattle.lq_run.specs.Stands.{Stands, entry_of}
-use Rattle.lq_run.specs.Stands.{entries_of as written_of}
-use Rattle.lq_store.specs.Journal.{Entry, end_of, is_full, size_of_all}
-use Rattle.lq_store.specs.State.{State}
+use Rattle.lq_run.specs.Does.{Breaks, Faults, HasNoRoom as NoRoom}
+use Rattle.lq_run.specs.Stands.{Stands, entry_of, entries_of as written_of}
+use Rattle.lq_store.specs.Journal.{Entry, end_of, is_full, size_of_all, State}
 use Rattle.lq_turns.specs.Schedule.{appended, has_begun, moved}
 use Rattle.lq_turns.specs.Session.{Session, called, room_of}
 use Rattle.lq_turns.specs.declared.call.Call.{Call}

@@ -5,9 +5,8 @@ use Rattle.std.specs.Option.{option_map}
 use Rattle.std.specs.Prelude.{Err, List, None, Ok, Option, Result, [], false, map, refl, true, ℕ, ◌++◌, ◌∷◌, ◌≡◌}
 use Rattle.lq_base.specs.declared.dialect.Dialect.{Dialect}
 use Rattle.lq_base.specs.declared.reason.Reason.{Reason}
-use Rattle.lq_drill.specs.Faults.{HasNoRoom, Meets}
+use Rattle.lq_drill.specs.Faults.{HasNoRoom, Meets, Shows, entries_of, entry_of}
 use Rattle.lq_drill.specs.Player.{Brings, IsDue, Moves, MovesAs, Plays, Standing}
-use Rattle.lq_drill.specs.Shows.{Shows, entries_of, entry_of}
 use Rattle.lq_drill.specs.declared.fault.DrillFault.{DrillFault}
 use Rattle.lq_drill.specs.declared.fault.DrillFault.TheVariants as drill
 use Rattle.lq_hand.specs.Hand.{place_of}
@@ -22,28 +21,21 @@ use Rattle.lq_playing.proofs.Falling.{brings_none}
 use Rattle.lq_playing.proofs.Machines.{Runs, first_calls, is_first, makes_its_first}
 use Rattle.lq_playing.proofs.Shown.{stands_first}
 use Rattle.lq_playing.proofs.Told.{none_begun}
-use Rattle.lq_playing.specs.Answers.{fault_of}
-use Rattle.lq_playing.specs.Came.{as_busy, as_failed, as_locked}
-use Rattle.lq_playing.specs.Checked.{IsLetIn, MakesOne, MakesTurns, Work}
-use Rattle.lq_playing.specs.Judged.{CallsOnce, MayCall, OnIts}
+use Rattle.lq_playing.specs.Answers.{fault_of, as_busy, as_failed, as_locked}
+use Rattle.lq_playing.specs.Checked.{IsLetIn, MakesOne, MakesTurns, Work, CallsOnce, MayCall, OnIts}
 use Rattle.lq_playing.specs.declared.came.Came.{Came}
 use Rattle.lq_playing.specs.declared.came.Report.{Report}
 use Rattle.lq_playing.specs.declared.checks.OneCall.{OneCall}
 use Rattle.lq_run.proofs.Since.{front_of_map}
 use Rattle.lq_run.specs.Commands.{both_on}
-use Rattle.lq_run.specs.Does.{Breaks, DoesAlone}
-use Rattle.lq_run.specs.Does.{HasNoRoom as NoRoom}
-use Rattle.lq_run.specs.Opens.{TakesLock}
-use Rattle.lq_run.specs.Stands.{Stands}
-use Rattle.lq_run.specs.Stands.{entries_of as written_of}
-use Rattle.lq_store.specs.Journal.{Entry, end_of, is_full, size_of_all}
-use Rattle.lq_store.specs.State.{State, is_open}
+use Rattle.lq_run.specs.Does.{Breaks, DoesAlone, HasNoRoom as NoRoom}
+use Rattle.lq_run.specs.Moves.{TakesLock}
+use Rattle.lq_run.specs.Stands.{Stands, entries_of as written_of}
+use Rattle.lq_store.specs.Journal.{Entry, end_of, is_full, size_of_all, State, is_open}
 use Rattle.lq_track.specs.Database.{Database}
-use Rattle.lq_turns.specs.Contents.{contents_of, with_contents}
-use Rattle.lq_turns.specs.Deed.{all_done, lock_after}
-use Rattle.lq_turns.specs.Held.{StandsFor}
+use Rattle.lq_turns.specs.Deed.{contents_of, with_contents, all_done, lock_after}
+use Rattle.lq_turns.specs.Schedule.{StandsFor, after_call, appended, moved}
 use Rattle.lq_turns.specs.Rest.{Turns, rest}
-use Rattle.lq_turns.specs.Schedule.{after_call, appended, moved}
 use Rattle.lq_turns.specs.Script.{opening}
 use Rattle.lq_turns.specs.Session.{Session, called, room_of, session_on}
 use Rattle.lq_turns.specs.Set.{Meaning}

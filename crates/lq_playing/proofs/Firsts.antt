@@ -6,19 +6,17 @@ use Rattle.lq_base.specs.declared.dialect.Dialect.{Dialect}
 use Rattle.lq_base.specs.declared.tracking.Lock.{Lock}
 use Rattle.lq_beside.specs.Replays.{calls_fit}
 use Rattle.lq_drill.specs.Player.{Arrives, GoesOn, Moves, Standing}
-use Rattle.lq_drill.specs.Shows.{Shows}
+use Rattle.lq_drill.specs.Faults.{Shows}
 use Rattle.lq_drill.specs.declared.fault.DrillFault.{DrillFault}
-use Rattle.lq_hand.specs.Counts.{no_progress}
+use Rattle.lq_hand.specs.Way.{no_progress, Way}
 use Rattle.lq_hand.specs.Hand.{calls_left, place_of}
-use Rattle.lq_hand.specs.Way.{Way}
 use Rattle.lq_model.specs.declared.caller.Room.TheVariants.{Ordinary}
 use Rattle.lq_playing.proofs.Erased.{fit_bare}
 use Rattle.lq_playing.proofs.Machines.{Held, Runs, first_calls, first_told, held_after, is_first, own_number}
 use Rattle.lq_playing.proofs.Shown.{arrives_last, arrives_told, holds_now, none_open, shows_now, stands_first}
 use Rattle.lq_playing.proofs.Told.{none_begun}
-use Rattle.lq_playing.specs.Came.{as_busy, as_failed, as_locked, came}
-use Rattle.lq_playing.specs.Checked.{IsLetIn, MakesOne, MakesTurns, Work}
-use Rattle.lq_playing.specs.Judged.{AnswersFirst, MayCall}
+use Rattle.lq_playing.specs.Answers.{as_busy, as_failed, as_locked, came}
+use Rattle.lq_playing.specs.Checked.{IsLetIn, MakesOne, MakesTurns, Work, AnswersFirst, MayCall}
 use Rattle.lq_playing.specs.Under.{IsUnder, ToCome, WillAnswer}
 use Rattle.lq_playing.specs.declared.came.Came.{Came}
 use Rattle.lq_playing.specs.declared.came.Report.{Report}
@@ -28,20 +26,16 @@ use Rattle.lq_run.proofs.Ending.{some_last}
 use Rattle.lq_run.proofs.Whole.{is_taken}
 use Rattle.lq_run.specs.Commands.{IsNew, MayRun, both_on, script}
 use Rattle.lq_run.specs.Ends.{IsRunning}
-use Rattle.lq_run.specs.Holds.{IsHeld}
-use Rattle.lq_run.specs.Opens.{TakesLock}
-use Rattle.lq_run.specs.Stands.{Stands}
-use Rattle.lq_run.specs.Steps.{KnownIn, enters_turns, place}
-use Rattle.lq_run.specs.Steps.{Standing as Command}
-use Rattle.lq_store.specs.State.{State, is_open, other}
+use Rattle.lq_run.specs.Stands.{IsHeld, Stands}
+use Rattle.lq_run.specs.Moves.{TakesLock}
+use Rattle.lq_run.specs.Steps.{KnownIn, enters_turns, place, Standing as Command}
+use Rattle.lq_store.specs.Journal.{State, is_open, other}
 use Rattle.lq_track.specs.Database.{Database}
-use Rattle.lq_turns.specs.Held.{StandsFor, all_fit}
-use Rattle.lq_turns.specs.Rest.{if_goes_on, rest}
-use Rattle.lq_turns.specs.Schedule.{answers_with, appended, moved}
+use Rattle.lq_turns.specs.Schedule.{StandsFor, all_fit, answers_with, appended, moved}
+use Rattle.lq_turns.specs.Rest.{if_goes_on, rest, both_of}
 use Rattle.lq_turns.specs.Script.{opening}
 use Rattle.lq_turns.specs.Session.{Session, called, session_on}
 use Rattle.lq_turns.specs.Set.{Meaning}
-use Rattle.lq_turns.specs.Stepped.{both_of}
 use Rattle.lq_turns.specs.declared.call.Call.{Call}
 use Rattle.lq_turns.specs.declared.call.Call.TheVariants.{Alone}
 use Rattle.lq_turns.specs.declared.deed.Deed.TheVariants.{Locks}

@@ -4,10 +4,8 @@ use Rattle.std.specs.List.{list_any}
 use Rattle.std.specs.Prelude.{Bool, Err, List, None, Ok, Option, Some, [], false, if◌then◌else◌, is_some, nat_eq, refl, true, ℕ, ◌++◌, ◌||◌, ◌∷◌, ◌≡◌, ◌≢◌, ◌⊎◌}
 use Rattle.lq_base.specs.declared.dialect.Dialect.{Dialect}
 use Rattle.lq_base.specs.declared.tracking.Lock.{Lock}
-use Rattle.lq_drill.specs.Faults.{Falls, Meets, frees, has_bar, last_calls}
-use Rattle.lq_drill.specs.Player.{Arrives, Brings, GoesOn, IsDue, MakesLast, Moves, MovesAs, Plays, Rests, Standing, held_by}
-use Rattle.lq_drill.specs.Player.{answer_of as told_by}
-use Rattle.lq_drill.specs.Shows.{IsHolders, IsOpenAs, Shows}
+use Rattle.lq_drill.specs.Faults.{Falls, Meets, frees, has_bar, last_calls, IsHolders, IsOpenAs, Shows}
+use Rattle.lq_drill.specs.Player.{Arrives, Brings, GoesOn, IsDue, MakesLast, Moves, MovesAs, Plays, Rests, Standing, held_by, answer_of as told_by}
 use Rattle.lq_drill.specs.declared.fault.DrillFault.{DrillFault}
 use Rattle.lq_drill.specs.declared.fault.DrillFault.TheVariants as drill
 use Rattle.lq_hand.specs.Hand.{IsReady}
@@ -21,12 +19,10 @@ use Rattle.lq_playing.proofs.Falling.{brings_all, cause, fallen, fallen_held, gi
 use Rattle.lq_playing.proofs.Machines.{Held, IsToCall, Runs, held_after, holder_is, is_later, later_lost, next_called, not_open, not_other, own_number, some_is}
 use Rattle.lq_playing.proofs.Marks.{bare_none, last_open, last_shut, next_left}
 use Rattle.lq_playing.proofs.Shown.{arrives_last, arrives_told, holds_now, none_open, shows_now, shut_begun, shut_none, stands_for}
-use Rattle.lq_playing.specs.Answers.{fault_of, is_failed_end, is_told_end, refusal_in, tells_locked}
-use Rattle.lq_playing.specs.Came.{as_busy, as_failed, as_locked, came}
+use Rattle.lq_playing.specs.Answers.{fault_of, is_failed_end, is_told_end, refusal_in, tells_locked, as_busy, as_failed, as_locked, came}
 use Rattle.lq_playing.specs.Checked.{Work}
-use Rattle.lq_playing.specs.Hindered.{IsFree, IsHindered}
+use Rattle.lq_playing.specs.Under.{IsFree, IsHindered, IsOn, IsPlain, IsUnder, ToCome, WillAnswer, bare}
 use Rattle.lq_playing.specs.Playing.{is_locked}
-use Rattle.lq_playing.specs.Under.{IsOn, IsPlain, IsUnder, ToCome, WillAnswer, bare}
 use Rattle.lq_playing.specs.declared.came.Came.{Came}
 use Rattle.lq_playing.specs.declared.came.Report.{Report}
 use Rattle.lq_run.proofs.Ending.{keeps_split, left_after, only_last}
@@ -34,28 +30,22 @@ use Rattle.lq_run.proofs.Keeping.{call_holds}
 use Rattle.lq_run.proofs.Resting.{marked_some}
 use Rattle.lq_run.specs.Does.{Faults}
 use Rattle.lq_run.specs.Ends.{disk_failed}
-use Rattle.lq_run.specs.Faults.{StopsAs}
-use Rattle.lq_run.specs.Holds.{IsBare, IsHeld, IsMarked}
+use Rattle.lq_run.specs.Beside.{StopsAs}
+use Rattle.lq_run.specs.Stands.{IsBare, IsHeld, IsMarked, IsBegun, Stands}
 use Rattle.lq_run.specs.Moves.{Goes, IsAt}
-use Rattle.lq_run.specs.Stands.{IsBegun, Stands}
-use Rattle.lq_run.specs.Steps.{Advances, Ends, EndsStep, IsThere, Steps, StepsAs, TakesBack, TellsAs, end_of, is_disk, is_over, last_end, place}
-use Rattle.lq_run.specs.Steps.{Falls as MetFault}
-use Rattle.lq_run.specs.Steps.{Standing as Command}
+use Rattle.lq_run.specs.Steps.{Advances, Ends, EndsStep, IsThere, Steps, StepsAs, TakesBack, TellsAs, end_of, is_disk, is_over, last_end, place, Falls as MetFault, Standing as Command}
 use Rattle.lq_run.specs.declared.runner.End.{End}
 use Rattle.lq_run.specs.declared.runner.End.TheVariants as end
 use Rattle.lq_run.specs.declared.runner.Step.TheVariants as step
-use Rattle.lq_store.specs.State.{State, Transaction, is_open, other}
+use Rattle.lq_store.specs.Journal.{State, Transaction, is_open, other}
 use Rattle.lq_track.specs.Database.{Database}
 use Rattle.lq_turns.proofs.Made.{committed_last}
-use Rattle.lq_turns.specs.Contents.{contents_of, with_contents}
-use Rattle.lq_turns.specs.Deed.{lock_after}
-use Rattle.lq_turns.specs.Held.{StandsFor}
-use Rattle.lq_turns.specs.Rest.{NoMore, Over, between, rest}
-use Rattle.lq_turns.specs.Schedule.{after_call, answers_with, appended, has_begun, moved}
+use Rattle.lq_turns.specs.Deed.{contents_of, with_contents, lock_after}
+use Rattle.lq_turns.specs.Schedule.{StandsFor, after_call, answers_with, appended, has_begun, moved}
+use Rattle.lq_turns.specs.Rest.{NoMore, Over, between, rest, both_of}
 use Rattle.lq_turns.specs.Script.{closing}
 use Rattle.lq_turns.specs.Session.{Session, called}
 use Rattle.lq_turns.specs.Set.{Meaning}
-use Rattle.lq_turns.specs.Stepped.{both_of}
 use Rattle.lq_turns.specs.declared.answer.Answer.{Answer}
 use Rattle.lq_turns.specs.declared.answer.Answer.TheVariants.{Locked}
 use Rattle.lq_turns.specs.declared.call.Call.{Call}

@@ -6,12 +6,11 @@ use Rattle.std.specs.Prelude.{Bool, List, None, Option, Some, [], cond, false, i
 use Rattle.lq_base.specs.declared.dialect.Dialect.{Dialect}
 use Rattle.lq_drill.proofs.Machines.{answered_is}
 use Rattle.lq_drill.specs.Player.{answer_of, held_by}
-use Rattle.lq_drill.specs.Shows.{IsHolders, IsOpenAs}
-use Rattle.lq_playing.specs.Came.{as_busy, as_locked}
-use Rattle.lq_playing.specs.Checked.{AnswersAtOnce, IsLetIn, Work}
-use Rattle.lq_playing.specs.Judged.{AnswersFirst}
+use Rattle.lq_drill.specs.Faults.{IsHolders, IsOpenAs}
+use Rattle.lq_playing.specs.Answers.{as_busy, as_locked}
+use Rattle.lq_playing.specs.Checked.{AnswersAtOnce, IsLetIn, Work, AnswersFirst}
 use Rattle.lq_playing.specs.declared.came.Came.{Came}
-use Rattle.lq_store.specs.State.{Transaction, is_open, other_in}
+use Rattle.lq_store.specs.Journal.{Transaction, is_open, other_in}
 use Rattle.lq_track.specs.Database.{Database}
 use Rattle.lq_turns.specs.Schedule.{Holder, Machine, after_call, answers_with, appended, begins, first_step, has_answered, has_begun, later_step, makes, moved}
 use Rattle.lq_turns.specs.Serial.{at_once, makes_first, open_by, unless_called, unless_open, unless_refused}

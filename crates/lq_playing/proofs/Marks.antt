@@ -6,7 +6,7 @@ use Rattle.lq_drill.specs.Faults.{frees, has_bar, last_calls}
 use Rattle.lq_model.specs.declared.fault.StoreFault.{StoreFault}
 use Rattle.lq_playing.specs.Under.{IsPlain, ToCome}
 use Rattle.lq_run.proofs.Resting.{marked_some}
-use Rattle.lq_run.specs.Holds.{IsBare, IsHeld, IsMarked}
+use Rattle.lq_run.specs.Stands.{IsBare, IsHeld, IsMarked}
 use Rattle.lq_turns.specs.Script.{closing}
 use Rattle.lq_turns.specs.Session.{Session}
 use Rattle.lq_turns.specs.declared.call.Call.{Call}

@@ -3,7 +3,7 @@ use Rattle.std.proofs.Common.{ap, inl, subst, sym, ◌∙◌}
 use Rattle.std.specs.Prelude.{List, None, Option, [], false, map, refl, true, ℕ, ◌++◌, ◌∷◌, ◌≡◌}
 use Rattle.lq_base.specs.declared.dialect.Dialect.{Dialect}
 use Rattle.lq_drill.specs.Player.{LeftInStep, MovesSafely, Plays, Standing}
-use Rattle.lq_drill.specs.Shows.{LeftBetween, Shows}
+use Rattle.lq_drill.specs.Faults.{LeftBetween, Shows}
 use Rattle.lq_hand.specs.Hand.{place_of}
 use Rattle.lq_hand.specs.Way.{Way}
 use Rattle.lq_hand.specs.declared.hand.Hand.{Hand}
@@ -12,9 +12,8 @@ use Rattle.lq_playing.proofs.FirstFaults.{first_came}
 use Rattle.lq_playing.proofs.Machines.{Runs}
 use Rattle.lq_playing.proofs.Shown.{stands_first}
 use Rattle.lq_playing.proofs.Told.{none_begun}
-use Rattle.lq_playing.specs.Came.{as_busy, as_failed, as_locked}
-use Rattle.lq_playing.specs.Checked.{MakesOne, MakesTurns, Work}
-use Rattle.lq_playing.specs.Judged.{MayCall, OnIts}
+use Rattle.lq_playing.specs.Answers.{as_busy, as_failed, as_locked}
+use Rattle.lq_playing.specs.Checked.{MakesOne, MakesTurns, Work, MayCall, OnIts}
 use Rattle.lq_playing.specs.Under.{bare}
 use Rattle.lq_playing.specs.declared.came.Came.{Came}
 use Rattle.lq_playing.specs.declared.came.Report.{Report}
@@ -22,12 +21,9 @@ use Rattle.lq_playing.specs.declared.checks.OneCall.{OneCall}
 use Rattle.lq_run.proofs.Since.{leave_none, leave_wider}
 use Rattle.lq_run.specs.Commands.{both_on}
 use Rattle.lq_run.specs.Crashing.{CrashesFor, CrashesOpening, LeftInCall}
-use Rattle.lq_store.specs.Crashes.{Crashes, CrashesLeave}
-use Rattle.lq_store.specs.Journal.{Entry}
-use Rattle.lq_store.specs.State.{State, is_open}
-use Rattle.lq_turns.specs.Held.{StandsFor}
+use Rattle.lq_store.specs.Journal.{Crashes, CrashesLeave, Entry, State, is_open}
+use Rattle.lq_turns.specs.Schedule.{StandsFor, appended, moved}
 use Rattle.lq_turns.specs.Rest.{Turns, rest}
-use Rattle.lq_turns.specs.Schedule.{appended, moved}
 use Rattle.lq_turns.specs.Script.{opening}
 use Rattle.lq_turns.specs.Session.{Session, session_on}
 use Rattle.lq_turns.specs.Set.{Meaning}

@@ -3,9 +3,8 @@ use Rattle.std.proofs.Common.{ap, inl, inr, subst, sym}
 use Rattle.std.specs.Prelude.{Bool, List, None, Option, [], false, if◌then◌else◌, is_some, refl, true, ℕ, ◌∷◌, ◌≡◌}
 use Rattle.lq_base.specs.declared.dialect.Dialect.{Dialect}
 use Rattle.lq_base.specs.declared.tracking.Lock.{Lock}
-use Rattle.lq_drill.specs.Faults.{last_calls}
+use Rattle.lq_drill.specs.Faults.{last_calls, LeftBetween, Shows}
 use Rattle.lq_drill.specs.Player.{LeftInStep, MovesSafely, Plays, Standing}
-use Rattle.lq_drill.specs.Shows.{LeftBetween, Shows}
 use Rattle.lq_drill.specs.declared.fault.DrillFault.TheVariants as drill
 use Rattle.lq_hand.specs.Way.{Way}
 use Rattle.lq_model.specs.declared.fault.StoreFault.{StoreFault}
@@ -14,31 +13,24 @@ use Rattle.lq_playing.proofs.Laters.{IsHolder, falls, is_holder, left_to_call, t
 use Rattle.lq_playing.proofs.Laters.{there as is_there}
 use Rattle.lq_playing.proofs.Machines.{Held, Runs}
 use Rattle.lq_playing.proofs.Marks.{bare_none, last_shut}
-use Rattle.lq_playing.specs.Answers.{is_failed_end}
-use Rattle.lq_playing.specs.Came.{as_busy, as_failed, as_locked}
+use Rattle.lq_playing.specs.Answers.{is_failed_end, as_busy, as_failed, as_locked}
 use Rattle.lq_playing.specs.Checked.{Work}
-use Rattle.lq_playing.specs.Hindered.{IsFree}
-use Rattle.lq_playing.specs.Under.{IsPlain, IsUnder, bare}
+use Rattle.lq_playing.specs.Under.{IsFree, IsPlain, IsUnder, bare}
 use Rattle.lq_playing.specs.declared.came.Came.{Came}
 use Rattle.lq_run.proofs.Since.{leave_wider}
-use Rattle.lq_run.specs.Crashing.{CrashesStep, LeftInCall, MayFree}
-use Rattle.lq_run.specs.Crashing.{LeftInStep as LeftInRunner}
-use Rattle.lq_run.specs.Faults.{StopsAs}
-use Rattle.lq_run.specs.Holds.{IsBare, IsHeld}
-use Rattle.lq_run.specs.Steps.{place}
-use Rattle.lq_run.specs.Steps.{Standing as Command}
+use Rattle.lq_run.specs.Crashing.{CrashesStep, LeftInCall, MayFree, LeftInStep as LeftInRunner}
+use Rattle.lq_run.specs.Beside.{StopsAs}
+use Rattle.lq_run.specs.Stands.{IsBare, IsHeld}
+use Rattle.lq_run.specs.Steps.{place, Standing as Command}
 use Rattle.lq_run.specs.declared.runner.End.{End}
 use Rattle.lq_run.specs.declared.runner.End.TheVariants as end
 use Rattle.lq_run.specs.declared.runner.Step.TheVariants as step
-use Rattle.lq_store.specs.Crashes.{Crashes}
-use Rattle.lq_store.specs.Journal.{Entry}
-use Rattle.lq_store.specs.State.{State, is_open}
-use Rattle.lq_turns.specs.Rest.{rest}
+use Rattle.lq_store.specs.Journal.{Crashes, Entry, State, is_open}
+use Rattle.lq_turns.specs.Rest.{rest, both_of}
 use Rattle.lq_turns.specs.Schedule.{moved}
 use Rattle.lq_turns.specs.Script.{closing}
 use Rattle.lq_turns.specs.Session.{Session}
 use Rattle.lq_turns.specs.Set.{Meaning}
-use Rattle.lq_turns.specs.Stepped.{both_of}
 use Rattle.lq_turns.specs.declared.call.Call.{Call}
 use Rattle.lq_turns.specs.declared.call.Call.TheVariants.{Abort}
 use Rattle.lq_turns.specs.declared.stamp.Stamp.{Stamp}

@@ -6,20 +6,17 @@ use Rattle.std.specs.Option.{option_map}
 use Rattle.std.specs.Prelude.{List, None, Option, Some, [], cond, false, if◌then◌else◌, refl, true, ℕ, ◌+◌, ◌==◌, ◌++◌, ◌≡◌}
 use Rattle.lq_base.specs.declared.dialect.Dialect.{Dialect}
 use Rattle.lq_drill.specs.Player.{answer_of, Arrives, Plays, Standing}
-use Rattle.lq_drill.specs.Shows.{HadRoom, IsHolders, IsOpenAs, Shows, entries_of, entry_of, entry_texts}
+use Rattle.lq_drill.specs.Faults.{HadRoom, IsHolders, IsOpenAs, Shows, entries_of, entry_of, entry_texts}
 use Rattle.lq_playing.proofs.Told.{some_none}
 use Rattle.lq_playing.proofs.Machines.{Runs, own_number}
-use Rattle.lq_playing.specs.Came.{as_busy, as_locked}
+use Rattle.lq_playing.specs.Answers.{as_busy, as_locked}
 use Rattle.lq_playing.specs.Checked.{Work}
 use Rattle.lq_playing.specs.Under.{bare}
 use Rattle.lq_playing.specs.declared.came.Came.{Came}
 use Rattle.lq_run.proofs.Rooms.{both_rooms, no_entries, sizes}
-use Rattle.lq_run.specs.Stands.{IsBegun, Stands}
-use Rattle.lq_run.specs.Stands.{entries_of as written_of}
-use Rattle.lq_store.specs.Journal.{Entry, size_of_all}
-use Rattle.lq_store.specs.State.{State, Transaction, is_open, other_in}
-use Rattle.lq_turns.specs.Held.{StandsFor}
-use Rattle.lq_turns.specs.Schedule.{answers_with}
+use Rattle.lq_run.specs.Stands.{IsBegun, Stands, entries_of as written_of}
+use Rattle.lq_store.specs.Journal.{Entry, size_of_all, State, Transaction, is_open, other_in}
+use Rattle.lq_turns.specs.Schedule.{StandsFor, answers_with}
 use Rattle.lq_turns.specs.Session.{Session, session_on}
 use Rattle.lq_turns.specs.declared.deed.Deed.{Deed}
 

@@ -8,9 +8,8 @@ use Rattle.lq_base.specs.declared.tracking.Lock.{Lock}
 use Rattle.lq_drill.specs.Player.{MakesNone as CallsNone, Moves, Standing}
 use Rattle.lq_drill.specs.declared.fault.DrillFault.{DrillFault}
 use Rattle.lq_drill.specs.declared.fault.DrillFault.TheVariants as drill
-use Rattle.lq_hand.specs.Counts.{no_progress}
+use Rattle.lq_hand.specs.Way.{no_progress, Way}
 use Rattle.lq_hand.specs.Hand.{AreTurns, calls_left, place_of}
-use Rattle.lq_hand.specs.Way.{Way}
 use Rattle.lq_hand.specs.declared.hand.Hand.{Hand}
 use Rattle.lq_hand.specs.declared.hand.Phase.{Phase}
 use Rattle.lq_hand.specs.declared.hand.Phase.TheVariants as phase
@@ -26,35 +25,30 @@ use Rattle.lq_playing.proofs.Laters.{moves_hindered, moves_last, moves_on, moves
 use Rattle.lq_playing.proofs.Safely.{safe_begun, safe_once, safe_told}
 use Rattle.lq_playing.proofs.SafelyLater.{safe_ended, safe_going}
 use Rattle.lq_playing.proofs.SafelyLater.{met_before as had_met}
-use Rattle.lq_playing.specs.Answers.{Answers, AnswersAs, FailsAs, failure_of, fault_of, is_disk_answer, is_disk_fault, is_failed_end, is_failure, is_told_end, refusal_in, tells_locked}
-use Rattle.lq_playing.specs.Came.{as_busy, as_failed, as_locked, came}
-use Rattle.lq_playing.specs.Checked.{IsInHand, IsLetIn, Work}
-use Rattle.lq_playing.specs.Hindered.{Hinders, IsFree, Stays, asks_open, asks_open_at}
-use Rattle.lq_playing.specs.Judged.{Begins, CallsOnce, Judged}
+use Rattle.lq_playing.specs.Answers.{Answers, AnswersAs, FailsAs, failure_of, fault_of, is_disk_answer, is_disk_fault, is_failed_end, is_failure, is_told_end, refusal_in, tells_locked, as_busy, as_failed, as_locked, came}
+use Rattle.lq_playing.specs.Checked.{IsInHand, IsLetIn, Work, Begins, CallsOnce, Judged}
+use Rattle.lq_playing.specs.Under.{Hinders, IsFree, Stays, asks_open, asks_open_at, IsPlain, IsUnder}
 use Rattle.lq_playing.specs.Playing.{IsFresh, IsGoing, IsReadyAs, Took, opens_as, stands}
 use Rattle.lq_playing.specs.Resting.{RestsAs}
-use Rattle.lq_playing.specs.Under.{IsPlain, IsUnder}
 use Rattle.lq_playing.specs.declared.came.Came.{Came}
 use Rattle.lq_playing.specs.declared.came.Report.{Report}
 use Rattle.lq_playing.specs.declared.checks.OneCall.{OneCall}
 use Rattle.lq_playing.specs.declared.checks.Verdict.TheVariants as verdict
 use Rattle.lq_playing.specs.declared.playing.Playing.{Playing}
 use Rattle.lq_run.proofs.Beside.{set_inside, stays}
-use Rattle.lq_run.specs.Beside.{Asks, Beside, IsSet}
+use Rattle.lq_run.specs.Beside.{Asks, Beside, IsSet, StopsAs, is_disk_end}
 use Rattle.lq_run.specs.Commands.{IsNew, both_on}
 use Rattle.lq_run.specs.Crashing.{CrashesFor, CrashesOpening, CrashesStep}
 use Rattle.lq_run.specs.Ends.{disk_failed}
-use Rattle.lq_run.specs.Faults.{StopsAs, is_disk_end}
-use Rattle.lq_run.specs.Holds.{IsHeld}
+use Rattle.lq_run.specs.Stands.{IsHeld}
 use Rattle.lq_run.specs.Steps.{Steps, is_over, standing}
 use Rattle.lq_run.specs.declared.runner.End.{End}
 use Rattle.lq_run.specs.declared.runner.End.TheVariants as end
 use Rattle.lq_run.specs.declared.runner.Runner.{Runner}
 use Rattle.lq_run.specs.declared.runner.Step.TheVariants as step
-use Rattle.lq_store.specs.Crashes.{Crashes}
-use Rattle.lq_store.specs.State.{State, is_open}
+use Rattle.lq_store.specs.Journal.{Crashes, State, is_open}
 use Rattle.lq_track.specs.Database.{Database}
-use Rattle.lq_turns.specs.Held.{StandsFor}
+use Rattle.lq_turns.specs.Schedule.{StandsFor}
 use Rattle.lq_turns.specs.Rest.{Turns, rest}
 use Rattle.lq_turns.specs.Script.{opening}
 use Rattle.lq_turns.specs.Set.{Meaning}

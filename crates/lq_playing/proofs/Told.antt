@@ -14,11 +14,9 @@ use Rattle.lq_hand.specs.declared.hand.Phase.TheVariants as phase
 use Rattle.lq_model.specs.Catalogue.{Catalogue}
 use Rattle.lq_model.specs.declared.fault.StoreFault.{StoreFault}
 use Rattle.lq_model.specs.declared.fault.StoreFault.TheVariants as fault
-use Rattle.lq_playing.specs.Answers.{fault_of, is_disk_fault, is_failed_end, is_failure, tells_locked}
-use Rattle.lq_playing.specs.Came.{as_locked, came}
-use Rattle.lq_playing.specs.Checked.{Checked, Work}
-use Rattle.lq_playing.specs.Hindered.{Hinders, IsFree, Stays, TellsBusy as IsTold, TellsLost, TellsOpen, asks_open, asks_open_at}
-use Rattle.lq_playing.specs.Judged.{AnswersBeside, AnswersFirst, CallsOnce, Judged, TellsBusy, TellsHeld}
+use Rattle.lq_playing.specs.Answers.{fault_of, is_disk_fault, is_failed_end, is_failure, tells_locked, as_locked, came}
+use Rattle.lq_playing.specs.Checked.{Checked, Work, AnswersBeside, AnswersFirst, CallsOnce, Judged, TellsBusy, TellsHeld}
+use Rattle.lq_playing.specs.Under.{Hinders, IsFree, Stays, TellsBusy as IsTold, TellsLost, TellsOpen, asks_open, asks_open_at}
 use Rattle.lq_playing.specs.declared.came.Came.{Came}
 use Rattle.lq_playing.specs.declared.came.Report.{Report}
 use Rattle.lq_playing.specs.declared.checks.OneCall.{OneCall}
@@ -26,22 +24,19 @@ use Rattle.lq_playing.specs.declared.checks.Verdict.{Verdict}
 use Rattle.lq_playing.specs.declared.checks.Verdict.TheVariants as verdict
 use Rattle.lq_run.proofs.Beside.{own_alone}
 use Rattle.lq_run.proofs.Losing.{told_at}
-use Rattle.lq_run.specs.Beside.{Asks, Beside}
+use Rattle.lq_run.specs.Beside.{Asks, Beside, is_disk_end}
 use Rattle.lq_run.specs.Crashing.{CrashesFor}
 use Rattle.lq_run.specs.Does.{AloneFor}
 use Rattle.lq_run.specs.Ends.{disk_failed}
-use Rattle.lq_run.specs.Faults.{is_disk_end}
-use Rattle.lq_run.specs.Holds.{Holds, IsHeld}
-use Rattle.lq_run.specs.Stands.{Stands}
+use Rattle.lq_run.specs.Stands.{Holds, IsHeld, Stands}
 use Rattle.lq_run.specs.Steps.{is_disk}
 use Rattle.lq_run.specs.declared.holding.Holding.TheVariants as holding
 use Rattle.lq_run.specs.declared.runner.End.{End}
 use Rattle.lq_run.specs.declared.runner.End.TheVariants as end
 use Rattle.lq_store.specs.Calls.{IsBusy}
-use Rattle.lq_store.specs.Crashes.{Crashes}
-use Rattle.lq_store.specs.State.{State, Transaction, is_open, other, other_in, seen, seen_in}
+use Rattle.lq_store.specs.Journal.{Crashes, State, Transaction, is_open, other, other_in, seen, seen_in}
 use Rattle.lq_track.specs.Database.{Database, lock_of}
-use Rattle.lq_turns.specs.Held.{StandsFor}
+use Rattle.lq_turns.specs.Schedule.{StandsFor}
 use Rattle.lq_turns.specs.Rest.{Turns}
 use Rattle.lq_turns.specs.Session.{called}
 use Rattle.lq_turns.specs.Set.{Meaning}

@@ -1,9 +1,12 @@
 -- What a player answers, and what its faults of the store come to.
-use Rattle.std.specs.Prelude.{Bool, Err, None, Ok, Option, Result, Some, false, true, ◌≡◌}
+use Rattle.std.specs.Prelude.{Bool, Err, None, Ok, Option, Result, Some, [], false, if◌then◌else◌, true, ℕ, ◌≡◌}
+use Rattle.lq_base.specs.declared.tracking.Lock.{Lock}
 use Rattle.lq_drill.specs.declared.fault.DrillFault.{DrillFault}
 use Rattle.lq_drill.specs.declared.fault.DrillFault.TheVariants as drill
 use Rattle.lq_model.specs.declared.fault.StoreFault.{StoreFault}
 use Rattle.lq_model.specs.declared.fault.StoreFault.TheVariants as fault
+use Rattle.lq_playing.specs.declared.came.Came.{Came}
+use Rattle.lq_playing.specs.declared.came.Report.{Report}
 use Rattle.lq_run.specs.declared.runner.End.{End}
 use Rattle.lq_run.specs.declared.runner.End.TheVariants as end
 use Rattle.lq_turns.specs.declared.answer.Answer.{Answer}
@@ -104,3 +107,47 @@ is_disk_fault drill.OutOfMemory = false
 abbrev pub is_disk_answer : {A : Type 0} → Result A DrillFault → Bool
 is_disk_answer (Ok a) = false
 is_disk_answer (Err why) = is_disk_fault why
+
+-- What a command came to.
+
+-- what a command did that has done nothing
+abbrev pub nothing : Report
+nothing = record { happened = []; not_fresh = 0; warned = []; printed = []; pending = []; freed = None }
+
+-- It passed its checks, and came to its end. A changelog whose own precondition halts does not pass them.
+abbrev pub has_ended : Answer → Bool
+has_ended answer.Done = true
+has_ended (answer.Locked lock) = false
+has_ended (answer.Invalid faults) = false
+has_ended (answer.Halted None why) = false
+has_ended (answer.Halted (Some of) why) = true
+has_ended (answer.Refused identity statement kept reason) = true
+has_ended answer.NoTarget = false
+has_ended (answer.NotReversible of) = false
+has_ended answer.Disk = false
+has_ended (answer.Full used next) = false
+has_ended (answer.Busy session) = false
+has_ended answer.OutOfMemory = false
+
+-- with its answer it tells what it did, where it came to its end
+abbrev pub came : Report → Answer → Came
+came report a = record { answer = a; report = if has_ended a then Some report else None }
+
+abbrev pub answer_of : Came → Answer
+answer_of it = it.answer
+
+-- or it came to an answer alone
+abbrev pub only : Answer → Came
+only a = record { answer = a; report = None }
+
+-- the lock is held, or another session has a transaction open
+
+abbrev pub as_locked : Lock → Came
+as_locked lock = only (answer.Locked lock)
+
+abbrev pub as_busy : ℕ → Came
+as_busy n = only (answer.Busy n)
+
+-- or the store has a fault
+abbrev pub as_failed : DrillFault → Came
+as_failed why = only (failure_of why)

@@ -1,31 +1,37 @@
 -- What the checks of a command come to on the database that they see.
-use Rattle.std.specs.Prelude.{None, Ok, Option, Some, [], false, true, ◌&&◌, ◌∷◌, ◌≡◌, ◌⊎◌}
+use Rattle.std.specs.Prelude.{Bool, Err, None, Ok, Option, Result, Some, [], false, true, ℕ, ◌&&◌, ◌∷◌, ◌≡◌, ◌⊎◌}
 use Rattle.lq_base.specs.declared.dialect.Dialect.{Dialect}
+use Rattle.lq_base.specs.declared.tracking.Lock.{Lock}
 use Rattle.lq_beside.specs.Replays.{calls_fit}
-use Rattle.lq_hand.specs.Counts.{no_progress}
+use Rattle.lq_drill.specs.declared.fault.DrillFault.{DrillFault}
 use Rattle.lq_hand.specs.Hand.{AreTurns, calls_left, place_of}
-use Rattle.lq_hand.specs.Way.{Way}
+use Rattle.lq_hand.specs.Way.{Way, no_progress}
 use Rattle.lq_hand.specs.declared.hand.Hand.{Hand}
 use Rattle.lq_hand.specs.declared.hand.Phase.TheVariants as phase
 use Rattle.lq_model.specs.Catalogue.{Catalogue}
-use Rattle.lq_playing.specs.Answers.{is_failure}
-use Rattle.lq_playing.specs.Came.{as_busy, as_locked, came}
+use Rattle.lq_model.specs.declared.fault.StoreFault.{StoreFault}
+use Rattle.lq_model.specs.declared.fault.StoreFault.TheVariants as fault
+use Rattle.lq_playing.specs.Answers.{as_busy, as_locked, came, failure_of, fault_of, is_failure}
 use Rattle.lq_playing.specs.declared.came.Came.{Came}
 use Rattle.lq_playing.specs.declared.came.Report.{Report}
 use Rattle.lq_playing.specs.declared.checks.OneCall.{OneCall}
 use Rattle.lq_playing.specs.declared.checks.Verdict.{Verdict}
 use Rattle.lq_playing.specs.declared.checks.Verdict.TheVariants as verdict
 use Rattle.lq_run.specs.Commands.{both_on, script}
-use Rattle.lq_run.specs.Does.{AllWritable, MayFill}
+use Rattle.lq_run.specs.Does.{AllWritable, AloneFor, MayFill}
 use Rattle.lq_run.specs.Ends.{AllHoldOn}
+use Rattle.lq_run.specs.Moves.{TakesLock}
+use Rattle.lq_run.specs.Stands.{Stands}
 use Rattle.lq_run.specs.Steps.{KnownIn}
+use Rattle.lq_store.specs.Journal.{State, other}
 use Rattle.lq_track.specs.Database.{Database}
 use Rattle.lq_turns.specs.Deed.{all_done}
-use Rattle.lq_turns.specs.Held.{StandsFor, all_fit}
 use Rattle.lq_turns.specs.Rest.{Turns}
-use Rattle.lq_turns.specs.Schedule.{Job}
-use Rattle.lq_turns.specs.Session.{called, session_on}
+use Rattle.lq_turns.specs.Schedule.{Job, StandsFor, all_fit}
+use Rattle.lq_turns.specs.Session.{Session, called, session_on}
 use Rattle.lq_turns.specs.Set.{Meaning}
+use Rattle.lq_turns.specs.declared.answer.Answer.{Answer}
+use Rattle.lq_turns.specs.declared.answer.Answer.TheVariants.{Busy, Locked}
 use Rattle.lq_turns.specs.declared.call.Call.TheVariants.{Alone}
 use Rattle.lq_turns.specs.declared.stamp.Stamp.{Stamp}
 use Rattle.lq_turns.specs.declared.stop.Refusal.{Refusal}
@@ -82,3 +88,56 @@ module _ {Key Told T : Type 0} (d : Dialect) (m : Meaning Key) (stamp : Stamp) (
   Checked reports turns source seen (verdict.OneCall call) = (is_failure call.answer ≡ false) × AllWritable d call.deeds × MayFill call.room call.deeds × OnSeen seen (MakesOne d job (reports source) call)
   Checked reports turns source seen (verdict.Turns hand) = IsInHand d stamp hand × OnSeen seen (MakesTurns turns source hand)
   Checked reports turns source seen verdict.Lack = Unit {0}
+
+-- What a player does at its first step.
+
+-- the lock, where there is memory for it
+abbrev pub TellsHeld : Lock → Verdict → Type 0
+TellsHeld lock (verdict.Answer a) = a ≡ Locked lock
+TellsHeld lock verdict.Lack = Unit {0}
+TellsHeld lock (verdict.OneCall call) = ⊥
+TellsHeld lock (verdict.Turns hand) = ⊥
+
+-- the session that has a transaction open
+abbrev pub TellsBusy : StoreFault → Verdict → Type 0
+TellsBusy (fault.Busy n) v = v ≡ verdict.Answer (Busy n)
+TellsBusy fault.Disk v = v ≡ verdict.Lack
+TellsBusy (fault.Full used next) v = v ≡ verdict.Lack
+TellsBusy (fault.Refused reason) v = v ≡ verdict.Lack
+TellsBusy fault.NotSql v = v ≡ verdict.Lack
+TellsBusy fault.OutOfMemory v = v ≡ verdict.Lack
+
+-- an answer without a call: the lock that keeps it out, or the session that has a transaction open, or what its command answers at once
+abbrev pub AnswersBeside : Option ℕ → Work → Came → Database → Type 0
+AnswersBeside (Some n) job a database = a ≡ as_busy n
+AnswersBeside None job a database = AnswersAtOnce job a database
+
+abbrev pub AnswersFirst : Bool → Option ℕ → Work → Came → Database → Type 0
+AnswersFirst true open_by job a database = a ≡ as_locked database.lock
+AnswersFirst false open_by job a database = AnswersBeside open_by job a database
+
+-- no other session has a transaction open, and the lock does not keep it out
+abbrev pub MayCall : ℕ → State → Work → Database → Type 0
+MayCall session x job database = (other session x ≡ None) × IsLetIn job database
+
+-- on each database for which the store stands
+abbrev pub OnIts : Dialect → State → (Database → Type 0) → Type 0
+OnIts d x holds = x.dialect ≡ d → (database : Database) → StandsFor d x.committed database → holds database
+
+module _ {Key Told T : Type 0} (d : Dialect) (m : Meaning Key) (stamp : Stamp) (way : T → Dialect → Stamp → Told → Way) (ends : T → Option Refusal → Came) (job : Work) where
+  abbrev pub Judged : (T → Report) → Turns Key → T → ℕ → State → Verdict → Type 0
+  Judged reports turns source session x (verdict.Answer a) = (is_failure a ≡ false) × OnIts d x (λ database. AnswersFirst (job.needs_lock && database.lock.locked) (other session x) job (came (reports source) a) database)
+  Judged reports turns source session x (verdict.OneCall call) = (is_failure call.answer ≡ false) × AllWritable d call.deeds × MayFill call.room call.deeds × OnIts d x (λ database. MayCall session x job database × MakesOne d job (reports source) call database)
+  Judged reports turns source session x (verdict.Turns hand) = IsInHand d stamp hand × OnIts d x (λ database. MayCall session x job database × MakesTurns d m stamp way ends job turns source hand database)
+  Judged reports turns source session x verdict.Lack = Unit {0}
+
+-- the one call of a command is made, from every session for which the store stands; or it met a fault
+abbrev pub CallsOnce : Dialect → ℕ → OneCall → State → Result Answer DrillFault → State → Type 0
+CallsOnce d session call x (Ok a) y = (a ≡ call.answer)
+    × ((start : State) (s : Session) → start.dialect ≡ d → Stands start session x s → all_fit d call.deeds s.seen ≡ true → Stands start session y (called d (Alone call.deeds call.room) s))
+CallsOnce d session call x (Err why) y = (fault : StoreFault) × (fault_of fault ≡ why) × AloneFor d session call.deeds call.room x (Err fault) y
+
+-- a command has taken the lock, and is to be called again; or it met a fault
+abbrev pub Begins : Dialect → Stamp → ℕ → State → State → Bool → Option Answer → Bool → Bool → Option Answer → Bool → Result (Unit {0}) DrillFault → Type 0
+Begins d stamp session x y begun answers faulted begun_now answers_now faulted_now (Ok u) = TakesLock d stamp session x (Ok tt) y × (begun_now ≡ true) × (answers_now ≡ answers) × (faulted_now ≡ faulted)
+Begins d stamp session x y begun answers faulted begun_now answers_now faulted_now (Err why) = (begun_now ≡ begun) × (answers_now ≡ Some (failure_of why)) × (faulted_now ≡ true) × ((fault : StoreFault) × (fault_of fault ≡ why) × TakesLock d stamp session x (Err fault) y)

@@ -4,28 +4,25 @@ use Rattle.std.specs.Option.{option_map}
 use Rattle.std.specs.Prelude.{Bool, None, Ok, Option, Result, Some, false, is_some, true, ℕ, ◌≡◌, ◌≤◌}
 use Rattle.lq_base.specs.declared.dialect.Dialect.{Dialect}
 use Rattle.lq_base.specs.declared.tracking.Lock.{Lock}
+use Rattle.lq_drill.specs.Faults.{LetsBe}
 use Rattle.lq_drill.specs.Player.{EndsBy, HasMet, Moves, MovesSafely, Standing}
-use Rattle.lq_drill.specs.Shows.{LetsBe}
 use Rattle.lq_drill.specs.declared.fault.DrillFault.{DrillFault}
 use Rattle.lq_hand.specs.Hand.{calls_left}
 use Rattle.lq_hand.specs.Way.{Way}
 use Rattle.lq_hand.specs.declared.hand.Hand.{Hand}
 use Rattle.lq_model.specs.declared.fault.StoreFault.{StoreFault}
-use Rattle.lq_playing.specs.Answers.{fault_of}
-use Rattle.lq_playing.specs.Came.{as_busy, as_failed, as_locked, came}
+use Rattle.lq_playing.specs.Answers.{as_busy, as_failed, as_locked, came, fault_of}
 use Rattle.lq_playing.specs.Checked.{Work}
-use Rattle.lq_playing.specs.Hindered.{asks_open}
-use Rattle.lq_playing.specs.Under.{IsPlain, IsUnder}
+use Rattle.lq_playing.specs.Under.{IsPlain, IsUnder, asks_open}
 use Rattle.lq_playing.specs.declared.came.Came.{Came}
 use Rattle.lq_playing.specs.declared.came.Report.{Report}
 use Rattle.lq_playing.specs.declared.playing.Playing.{Playing}
 use Rattle.lq_run.specs.Beside.{Asks}
 use Rattle.lq_run.specs.Ends.{disk_failed}
-use Rattle.lq_run.specs.Holds.{IsHeld}
+use Rattle.lq_run.specs.Stands.{IsHeld}
 use Rattle.lq_run.specs.Steps.{is_over, standing}
 use Rattle.lq_run.specs.declared.runner.Runner.{Runner}
-use Rattle.lq_store.specs.Crashes.{Crashes}
-use Rattle.lq_store.specs.State.{State, is_open}
+use Rattle.lq_store.specs.Journal.{Crashes, State, is_open}
 use Rattle.lq_turns.specs.Rest.{Turns}
 use Rattle.lq_turns.specs.Set.{Meaning}
 use Rattle.lq_turns.specs.declared.stamp.Stamp.{Stamp}

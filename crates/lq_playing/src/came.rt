@@ -1,5 +1,5 @@
 ghost use Rattle.std.specs.Prelude.{◌≡◌};
-ghost use Rattle.lq_playing.specs.Came.{nothing};
+ghost use Rattle.lq_playing.specs.Answers.{nothing};
 
 use lq_base::{Happened, Identity, Items, Lock, Printed, Why};
 use lq_turns::Answer;

@@ -1,7 +1,6 @@
 ghost use Rattle.std.specs.Prelude.{◌≡◌, ◌≤◌, IfOk, false};
 ghost use Rattle.lq_base.specs.declared.dialect.Dialect.{Dialect};
-ghost use Rattle.lq_playing.specs.Answers.{is_failure};
-ghost use Rattle.lq_playing.specs.Came.{came};
+ghost use Rattle.lq_playing.specs.Answers.{is_failure, came};
 ghost use Rattle.lq_playing.specs.Checked.{Checked};
 ghost use Rattle.lq_turns.specs.declared.stamp.Stamp.{Stamp};
 

@@ -2,11 +2,11 @@ ghost use Rattle.std.specs.Prelude.{◌≡◌, ◌≤◌, ◌⊎◌, Err, IfErr,
 ghost use Rattle.lq_drill.specs.declared.fault.DrillFault.TheVariants as drill;
 ghost use Rattle.lq_model.specs.declared.fault.StoreFault.{StoreFault as Fault};
 ghost use Rattle.lq_hand.specs.Hand.{calls_left};
-ghost use Rattle.lq_playing.specs.Hindered.{Hinders, Stays, TellsBusy, TellsLost, TellsOpen, asks_open, first_within, is_within};
+ghost use Rattle.lq_playing.specs.Under.{Hinders, Stays, TellsBusy, TellsLost, TellsOpen, asks_open, first_within, is_within};
 ghost use Rattle.lq_playing.specs.Answers.{fault_of, is_failure, tells_locked};
 ghost use Rattle.lq_run.specs.Ends.{disk_failed};
-ghost use Rattle.lq_run.specs.Holds.{Holds};
-ghost use Rattle.lq_store.specs.State.{is_open};
+ghost use Rattle.lq_run.specs.Stands.{Holds};
+ghost use Rattle.lq_store.specs.Journal.{is_open};
 ghost use Rattle.lq_track.specs.Database.{lock_of};
 ghost use Rattle.lq_base.specs.declared.dialect.Dialect.{Dialect as Names};
 ghost use Rattle.lq_turns.specs.declared.answer.Answer.{Answer as Told};

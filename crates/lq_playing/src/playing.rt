@@ -1,19 +1,17 @@
 ghost use Rattle.std.specs.Prelude.{◌≡◌, ◌≤◌, ◌||◌, Err, IsTrue, None, false, is_some, option_map, true, ℕ};
 ghost use Rattle.lq_drill.specs.Drill.{IsNew};
 ghost use Rattle.lq_drill.specs.declared.fault.DrillFault.TheVariants as drill;
-ghost use Rattle.lq_outside.specs.Count.{Rose};
-ghost use Rattle.lq_playing.specs.Answers.{Answers, failure_of, fault_of, is_disk_answer};
+ghost use Rattle.lq_outside.specs.Forms.{Rose};
+ghost use Rattle.lq_playing.specs.Answers.{Answers, failure_of, fault_of, is_disk_answer, came};
 ghost use Rattle.lq_base.specs.declared.dialect.Dialect.{Dialect as Names};
-ghost use Rattle.lq_playing.specs.Came.{came};
-ghost use Rattle.lq_playing.specs.Hindered.{IsFree, asks_open};
-ghost use Rattle.lq_playing.specs.Judged.{Begins};
+ghost use Rattle.lq_playing.specs.Under.{IsFree, asks_open, IsPlain};
+ghost use Rattle.lq_playing.specs.Checked.{Begins};
 ghost use Rattle.lq_playing.specs.Resting.{RestsAs};
 ghost use Rattle.lq_playing.specs.Playing.{IsFresh, IsGoing, Took, opens_as, stands};
-ghost use Rattle.lq_playing.specs.Under.{IsPlain};
 ghost use Rattle.lq_drill.specs.Player.{LeavesAll};
 ghost use Rattle.lq_run.specs.Beside.{Beside};
 ghost use Rattle.lq_run.specs.Crashing.{CrashesOpening};
-ghost use Rattle.lq_store.specs.State.{is_open};
+ghost use Rattle.lq_store.specs.Journal.{is_open};
 
 use crate::calls::{answer_at, call_once, fault_of, judge};
 use crate::came::{Came, Report};
@@ -334,7 +332,7 @@ fn failure_of(fault: DrillFault) -> Answer
 }
 
 impl<T: Checks + Drop> Player for Playing<T> {
-    ghost use Rattle.lq_playing.specs.Came.{as_busy, as_failed, as_locked};
+    ghost use Rattle.lq_playing.specs.Answers.{as_busy, as_failed, as_locked};
     ghost use Rattle.lq_playing.specs.Playing.{is_locked, stands};
 
     type Answer = Came;

@@ -6,7 +6,7 @@ use Rattle.lq_expr.specs.declared.options.Options.{Options}
 use Rattle.lq_kinds.specs.declared.change_set.ChangeSet.{ChangeSet}
 use Rattle.lq_kinds.specs.declared.change_set.Changelog.{Changelog}
 use Rattle.lq_seen.specs.View.{tag_of, view_log}
-use Rattle.lq_turns.specs.Rollback.{has_tag}
+use Rattle.lq_turns.specs.Script.{has_tag}
 use Rattle.lq_turns.specs.Set.{Set}
 use Rattle.lq_turns.specs.Settle.{what}
 use Rattle.lq_turns.specs.Stops.{is_to_run}

@@ -3,7 +3,7 @@ use Rattle.lq_base.specs.declared.dialect.Dialect.{Dialect}
 use Rattle.lq_base.specs.declared.dialect.Dialect.TheVariants.{Mysql, Postgresql}
 use Rattle.lq_base.specs.declared.name.Name.{Name}
 use Rattle.lq_model.specs.Catalogue.{Table}
-use Rattle.lq_model.specs.DropConstraint.{without_constraint, without_its_key}
+use Rattle.lq_model.specs.Constraints.{without_constraint, without_its_key}
 use Rattle.lq_model.specs.declared.statement.Statement.{Statement}
 use Rattle.lq_model.specs.declared.statement.Statement.TheVariants.{DropConstraint, DropPrimaryKey}
 

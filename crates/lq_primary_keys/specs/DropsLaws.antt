@@ -10,8 +10,7 @@ use Rattle.lq_model.proofs.UndoConstraints.{drop_after_key}
 use Rattle.lq_model.proofs.UndoMysql.{drop_primary_key_after}
 use Rattle.lq_model.specs.Catalogue.{Catalogue, the_table, with_table}
 use Rattle.lq_model.specs.Sound.{IsSound}
-use Rattle.lq_model.specs.Statement.{is_statement}
-use Rattle.lq_model.specs.Step.{run}
+use Rattle.lq_model.specs.Step.{is_statement, run}
 use Rattle.lq_model.specs.TakesBack.{is_firm}
 use Rattle.lq_model.specs.declared.caller.By.TheVariants.{User}
 use Rattle.lq_model.specs.declared.constraint.Key.{Key}

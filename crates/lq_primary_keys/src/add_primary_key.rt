@@ -1,7 +1,7 @@
 ghost use Rattle.std.specs.List.{list_all};
 ghost use Rattle.std.specs.Prelude.{◌≡◌, ◌||◌, IfOk, not, true};
-ghost use Rattle.lq_model.specs.Names.{is_in};
-ghost use Rattle.lq_tree.specs.Found.{Reads};
+ghost use Rattle.lq_model.specs.Catalogue.{is_in};
+ghost use Rattle.lq_tree.specs.Look.{Reads};
 ghost use Rattle.lq_primary_keys.specs.AddPrimaryKey.{add_primary_key, is_for, key_of, name_of};
 ghost use Rattle.lq_primary_keys.specs.Drops.{drops_key};
 
@@ -124,8 +124,7 @@ impl AddPrimaryKey {
 }
 
 impl Change for AddPrimaryKey {
-    ghost use Rattle.lq_primary_keys.specs.AddPrimaryKey.{canonical_of, effect, gives, inverse, is_for, is_fresh};
-    ghost use Rattle.lq_primary_keys.specs.AddPrimaryKeyLaws.{does, restores, returned, spelled, told};
+    ghost use Rattle.lq_primary_keys.specs.AddPrimaryKey.{canonical_of, effect, gives, inverse, is_for, is_fresh, does, restores, returned, spelled, told};
     ghost use Rattle.lq_primary_keys.specs.declared.add_primary_key.AddPrimaryKey.{AddPrimaryKey};
 
     ghost Key = { AddPrimaryKey };

@@ -1,5 +1,5 @@
 ghost use Rattle.std.specs.Prelude.{◌≡◌, IfOk, true};
-ghost use Rattle.lq_tree.specs.Found.{Reads};
+ghost use Rattle.lq_tree.specs.Look.{Reads};
 ghost use Rattle.lq_primary_keys.specs.DropPrimaryKey.{drop_primary_key, is_for, name_of};
 ghost use Rattle.lq_primary_keys.specs.Drops.{drops_key};
 
@@ -72,8 +72,7 @@ impl DropPrimaryKey {
 }
 
 impl Change for DropPrimaryKey {
-    ghost use Rattle.lq_primary_keys.specs.DropPrimaryKey.{canonical_of, effect, gives, inverse, is_for, is_fresh};
-    ghost use Rattle.lq_primary_keys.specs.DropPrimaryKeyLaws.{does, restores, returned, spelled, told};
+    ghost use Rattle.lq_primary_keys.specs.DropPrimaryKey.{canonical_of, effect, gives, inverse, is_for, is_fresh, does, restores, returned, spelled, told};
     ghost use Rattle.lq_primary_keys.specs.declared.drop_primary_key.DropPrimaryKey.{DropPrimaryKey};
 
     ghost Key = { DropPrimaryKey };

@@ -3,7 +3,7 @@ use Rattle.std.proofs.Common.{◌≡◌, ℕ, Bool, true, false, cond, List, [],
 use Rattle.indexmap.specs.IndexMap.{IndexMap, get_by_text}
 use Rattle.std.specs.Str.{bytes_eq}
 use Rattle.std.proofs.lemmas.Slice.Eq.{bytes_eq-Decides}
-use Rattle.lq_props.specs.Values.{value_in, value_in_file, defined, defined_in_file}
+use Rattle.lq_props.specs.Replaced.{value_in, value_in_file, defined, defined_in_file}
 
 stays : (o : Option (List ℕ)) (value : List ℕ) → is_some o ≡ true → o ≡ Some (unwrap_or o value)
 stays None value has = absurd Prim.cc

@@ -1,3 +1,2 @@
-pub mod Props
 pub mod Replaced
-pub mod Values
+pub mod Props

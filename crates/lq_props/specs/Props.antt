@@ -1,10 +1,10 @@
 -- The values of properties by scope.
-use Rattle.std.specs.Prelude.{ℕ, Bool, true, false, List, Option, Some, None, if◌then◌else◌}
+use Rattle.std.specs.Prelude.{Bool, List, None, Option, Some, false, if◌then◌else◌, true, ℕ}
 use Rattle.std.specs.Str.{bytes_eq}
+use Rattle.lq_props.specs.Replaced.{defined, value_in, value_in_file}
 use Rattle.lq_props.specs.declared.props.Props.{Props}
 use Rattle.lq_props.specs.declared.scope.Scope.{Scope}
 use Rattle.lq_props.specs.declared.scope.Scope.TheVariants.{Command, File, Global}
-use Rattle.lq_props.specs.Values.{value_in, value_in_file, defined}
 
 -- the value that a scope itself has of a name
 abbrev pub own : Props → Scope → List ℕ → Option (List ℕ)

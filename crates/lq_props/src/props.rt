@@ -1,7 +1,6 @@
 ghost use Rattle.std.specs.Prelude.{◌≡◌, ℕ, List, None, OnOk, OnErr, IfOk, option_map};
 ghost use Rattle.lq_props.specs.declared.scope.Scope.{Scope};
-ghost use Rattle.lq_props.specs.Replaced.{replaced};
-ghost use Rattle.lq_props.specs.Values.{AreOfLengths};
+ghost use Rattle.lq_props.specs.Replaced.{replaced, AreOfLengths};
 ghost use Rattle.std.proofs.Props.{props};
 
 use crate::replacing::append_replaced;

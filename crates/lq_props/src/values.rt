@@ -1,5 +1,5 @@
 ghost use Rattle.std.specs.Prelude.{◌≡◌, ℕ, List, OnOk, OnErr, option_map};
-ghost use Rattle.lq_props.specs.Values.{value_in, value_in_file, defined, defined_in_file};
+ghost use Rattle.lq_props.specs.Replaced.{value_in, value_in_file, defined, defined_in_file};
 
 use indexmap::IndexMap;
 use lq_base::NoMemory;

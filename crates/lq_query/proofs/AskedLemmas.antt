@@ -3,10 +3,9 @@ use Rattle.std.proofs.Common.{◌≡◌, ◌∙◌, ◌∷◌, Bool, Err, IfOk, 
 use Rattle.lq_base.specs.declared.memory.NoMemory.{NoMemory}
 use Rattle.lq_base.specs.declared.reason.Reason.{Reason}
 use Rattle.lq_base.specs.declared.value.Value.{Value}
-use Rattle.lq_model.specs.Catalogue.{Catalogue}
-use Rattle.lq_model.specs.Look.{IsAnswer}
-use Rattle.lq_model.specs.Query.{Source, answer, answer_from, source_of}
-use Rattle.lq_model.specs.Reasons.{unless}
+use Rattle.lq_model.specs.Catalogue.{Catalogue, IsAnswer}
+use Rattle.lq_model.specs.Views.{Source, answer, answer_from, source_of}
+use Rattle.lq_model.specs.Plan.{unless}
 use Rattle.lq_model.specs.declared.caller.By.{By}
 use Rattle.lq_model.specs.declared.column.Column.{Column}
 use Rattle.lq_model.specs.declared.fault.AskFault.{AskFault}

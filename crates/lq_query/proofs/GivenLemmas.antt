@@ -6,8 +6,8 @@ use Rattle.lq_base.specs.declared.name.Name.{Name}
 use Rattle.lq_base.specs.declared.value.Value.{Value}
 use Rattle.lq_base.specs.declared.value.Value.TheVariants as value
 use Rattle.std.proofs.lemmas.List.Sums.{length-filter, sum_by-cons}
-use Rattle.lq_model.specs.Query.{Source, answer_from}
-use Rattle.lq_model.specs.Row.{picked}
+use Rattle.lq_model.specs.Views.{Source, answer_from}
+use Rattle.lq_model.specs.Catalogue.{picked}
 use Rattle.lq_model.specs.Truth.{takes}
 use Rattle.lq_model.specs.declared.column.Column.{Column}
 use Rattle.lq_model.specs.declared.query.Answered.{Answered}

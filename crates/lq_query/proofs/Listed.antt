@@ -3,8 +3,8 @@ use Rattle.std.proofs.Common.{◌≡◌, ◌||◌, ◌∷◌, Bool, List, [], ap
 use Rattle.std.specs.List.{list_any}
 use Rattle.lq_base.specs.Name.{is_named}
 use Rattle.lq_base.specs.declared.name.Name.{Name}
-use Rattle.lq_model.specs.Names.{is_in}
-use Rattle.lq_model.specs.Query.{lacks_column}
+use Rattle.lq_model.specs.Catalogue.{is_in}
+use Rattle.lq_model.specs.Views.{lacks_column}
 use Rattle.lq_model.specs.declared.column.Column.{Column}
 use Rattle.lq_model.proofs.Lists.{named_itself, or_false}
 

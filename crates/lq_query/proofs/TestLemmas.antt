@@ -2,7 +2,7 @@
 use Rattle.std.proofs.Common.{List, None, Some, ap, refl, true, ◌∙◌, ◌&&◌, ◌||◌, ◌++◌, ◌≡◌}
 use Rattle.lq_base.specs.declared.value.Value.{Value}
 use Rattle.lq_model.specs.Comparison.{kinds_agree}
-use Rattle.lq_model.specs.Query.{lacks_column}
+use Rattle.lq_model.specs.Views.{lacks_column}
 use Rattle.lq_model.specs.Truth.{both_true, not_so, one_true, operand_names, test_names, truth}
 use Rattle.lq_model.specs.declared.column.Column.{Column}
 use Rattle.lq_model.specs.declared.test.Op.{Op}

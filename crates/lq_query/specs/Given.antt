@@ -1,21 +1,23 @@
 -- What a query reads of one row of a table, and of all of them.
 use Rattle.std.specs.Option.{option_and_then, option_map_or}
-use Rattle.std.specs.Prelude.{Bool, List, None, Option, Some, Result, [], false, is_none, unwrap_or, ◌||◌, ◌∷◌, if◌then◌else◌}
+use Rattle.std.specs.Prelude.{Bool, List, None, Option, Result, Some, [], codes, false, if◌then◌else◌, is_none, not, unwrap_or, ℕ, ◌||◌, ◌∷◌}
+use Rattle.std.specs.Str.{str_eq_ignore_ascii_case}
 use Rattle.lq_base.specs.declared.reason.Reason.{Reason}
 use Rattle.lq_base.specs.declared.reason.Reason.TheVariants as reason
 use Rattle.lq_base.specs.declared.value.Value.{Value}
-use Rattle.lq_model.specs.Comparison.{compares_wrongly}
-use Rattle.lq_model.specs.Query.{Source, answer_from, lacks_column, listed, no_source}
-use Rattle.lq_model.specs.Reasons.{unless}
-use Rattle.lq_model.specs.Reserved.{is_reserved}
-use Rattle.lq_model.specs.Row.{picked}
-use Rattle.lq_model.specs.Truth.{names_in, takes}
+use Rattle.lq_model.specs.Catalogue.{picked}
+use Rattle.lq_model.specs.Comparison.{compares_wrongly, kinds_agree}
+use Rattle.lq_model.specs.NameSpaces.{is_reserved}
+use Rattle.lq_model.specs.Plan.{unless}
+use Rattle.lq_model.specs.Truth.{names_in, takes, test_names, truth}
+use Rattle.lq_model.specs.Views.{Source, answer_from, lacks_column, listed, no_source}
 use Rattle.lq_model.specs.declared.caller.By.{By}
 use Rattle.lq_model.specs.declared.column.Column.{Column}
 use Rattle.lq_model.specs.declared.query.Answered.{Answered}
 use Rattle.lq_model.specs.declared.query.Query.{Query}
 use Rattle.lq_model.specs.declared.query.Wanted.{Wanted}
 use Rattle.lq_model.specs.declared.query.Wanted.TheVariants as wanted
+use Rattle.lq_model.specs.declared.test.Test.{Test}
 use Rattle.lq_query.specs.declared.source.Shown.{Shown}
 
 -- what is shown of a row: all of it, or a view's columns of what its test takes
@@ -55,3 +57,14 @@ answered by q o =
     unless ((is_reserved by (q.table ∷ []), reason.Reserved)
     ∷ (is_none o || (lacks_column s.columns (listed q.wanted s.columns) || lacks_column s.columns (names_in q.test)), reason.Missing)
     ∷ (compares_wrongly s.columns q.test, reason.WrongKind) ∷ []) (answer_from s q)
+
+-- What a row is tested for.
+
+-- the value of a test on a row: Missing where it names a column that is not there, WrongKind where it compares what may not be compared
+abbrev pub tested : Test → List Column → List Value → Result (Option Bool) Reason
+tested test cs row = unless ((lacks_column cs (test_names test), reason.Missing) ∷ (not (kinds_agree cs test), reason.WrongKind) ∷ []) (truth cs row test)
+
+-- A tracking table's name in any case, as texts are compared.
+
+abbrev pub is_tracking_key : List ℕ → Bool
+is_tracking_key key = str_eq_ignore_ascii_case key (codes "databasechangelog") || str_eq_ignore_ascii_case key (codes "databasechangeloglock")

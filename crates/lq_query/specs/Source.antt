@@ -2,9 +2,9 @@
 use Rattle.std.specs.List.{filter}
 use Rattle.std.specs.Prelude.{List, None, Option, Some, map}
 use Rattle.lq_base.specs.declared.value.Value.{Value}
-use Rattle.lq_model.specs.Query as spec
-use Rattle.lq_model.specs.Row.{picked}
+use Rattle.lq_model.specs.Catalogue.{picked}
 use Rattle.lq_model.specs.Truth.{takes}
+use Rattle.lq_model.specs.Views as spec
 use Rattle.lq_model.specs.declared.column.Column.{Column}
 use Rattle.lq_query.specs.declared.source.Shown.{Shown}
 use Rattle.lq_query.specs.declared.source.Source.{Source}

@@ -1,8 +1,7 @@
 ghost use Rattle.std.specs.Option.{option_map};
 ghost use Rattle.std.specs.Prelude.{◌≡◌, Err, None, Some};
-ghost use Rattle.lq_model.specs.Catalogue.{Catalogue};
-ghost use Rattle.lq_model.specs.Look.{IsAnswer};
-ghost use Rattle.lq_model.specs.Query.{answer, source_of};
+ghost use Rattle.lq_model.specs.Catalogue.{Catalogue, IsAnswer};
+ghost use Rattle.lq_model.specs.Views.{answer, source_of};
 ghost use Rattle.lq_query.specs.Given.{answered};
 ghost use Rattle.lq_query.specs.Source.{shown_rows, source_meant};
 

@@ -1,8 +1,8 @@
 ghost use Rattle.std.specs.List.{filter, flat_map};
 ghost use Rattle.std.specs.Prelude.{◌≡◌, ◌++◌, IfOk, OnOk};
 ghost use Rattle.lq_base.specs.Name.{is_named};
-ghost use Rattle.lq_model.specs.Query.{columns_at};
-ghost use Rattle.lq_model.specs.Row.{by_name, picked};
+ghost use Rattle.lq_model.specs.Views.{columns_at};
+ghost use Rattle.lq_model.specs.Catalogue.{by_name, picked};
 
 use crate::cell::by_name;
 use lq_base::{Duplicate, Items, Name, NoMemory, Value};

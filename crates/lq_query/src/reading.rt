@@ -1,8 +1,8 @@
 ghost use Rattle.std.specs.List.{count_by, filter_map};
 ghost use Rattle.lq_base.specs.declared.value.Value.TheVariants.{Int};
 ghost use Rattle.std.specs.Prelude.{◌≡◌, ◌+◌, ◌∷◌, [], IfOk, pos};
-ghost use Rattle.lq_model.specs.Query.{answer_from};
-ghost use Rattle.lq_model.specs.Row.{picked};
+ghost use Rattle.lq_model.specs.Views.{answer_from};
+ghost use Rattle.lq_model.specs.Catalogue.{picked};
 ghost use Rattle.lq_query.specs.Given.{chosen, given, is_counted, taken};
 ghost use Rattle.lq_query.specs.Source.{shown_rows};
 

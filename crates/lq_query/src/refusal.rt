@@ -1,11 +1,10 @@
 ghost use Rattle.std.specs.List.{list_any};
 ghost use Rattle.std.specs.Prelude.{◌≡◌, ◌∷◌, []};
 ghost use Rattle.lq_model.specs.Comparison.{compares_wrongly};
-ghost use Rattle.lq_model.specs.Query.{lacks_column, listed};
-ghost use Rattle.lq_model.specs.Reserved.{is_reserved, is_tracking};
+ghost use Rattle.lq_model.specs.Views.{lacks_column, listed};
+ghost use Rattle.lq_model.specs.NameSpaces.{is_reserved, is_tracking};
 ghost use Rattle.lq_model.specs.Truth.{names_in};
-ghost use Rattle.lq_query.specs.Given.{against};
-ghost use Rattle.lq_query.specs.Tracking.{is_tracking_key};
+ghost use Rattle.lq_query.specs.Given.{against, is_tracking_key};
 
 use crate::truth::{has_column, kinds_agree, lacks_column};
 use lq_base::{Name, Reason};

@@ -5,7 +5,7 @@ ghost use Rattle.lq_base.specs.declared.kind.Kind.TheVariants as kind;
 ghost use Rattle.lq_base.specs.declared.literal.Literal.TheVariants as literal;
 ghost use Rattle.lq_model.specs.Comparison as spec;
 ghost use Rattle.lq_model.specs.Kinds.{kind_of};
-ghost use Rattle.lq_query.specs.Sorts.{sort_meant};
+ghost use Rattle.lq_query.specs.Cell.{sort_meant};
 
 use lq_base::{Kind, Literal, Name, moment_of};
 use lq_model::{Column, Operand};

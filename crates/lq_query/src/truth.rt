@@ -1,12 +1,11 @@
 ghost use Rattle.std.specs.Option.{option_map};
 ghost use Rattle.std.specs.Prelude.{◌≡◌, not, map, true, ◌∷◌, []};
 ghost use Rattle.lq_model.specs.Comparison.{kinds_agree};
-ghost use Rattle.lq_model.specs.Query.{lacks_column};
-ghost use Rattle.lq_model.specs.Names.{is_in};
-ghost use Rattle.lq_model.specs.Row.{row_fits, is_null};
+ghost use Rattle.lq_model.specs.Views.{lacks_column};
+ghost use Rattle.lq_model.specs.Catalogue.{is_in, row_fits, is_null};
 ghost use Rattle.lq_model.specs.Truth.{in_order, value_order, operand_names, both_true, not_so, one_true, takes, test_names, truth};
 ghost use Rattle.lq_query.specs.Cell.{cell_value};
-ghost use Rattle.lq_query.specs.Tested.{tested};
+ghost use Rattle.lq_query.specs.Given.{tested};
 
 use crate::cell::{Cell, operand};
 use crate::order::{in_order, value_order};

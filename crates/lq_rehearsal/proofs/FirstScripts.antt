@@ -3,12 +3,12 @@ use Rattle.std.proofs.Common.{ap, refl, subst, sym, ◌∙◌}
 use Rattle.std.specs.List.{list_all}
 use Rattle.std.specs.Prelude.{Bool, List, None, Option, Some, [], false, if◌then◌else◌, length, not, true, ℕ, ◌&&◌, ◌++◌, ◌∷◌, ◌≡◌}
 use Rattle.lq_back.proofs.Spelled.{turns_back_spelled}
-use Rattle.lq_back.specs.RowTurns.{goes_back, is_deletion}
+use Rattle.lq_back.specs.Reversal.{goes_back, is_deletion}
 use Rattle.lq_base.specs.declared.command.Target.TheVariants.{Count}
 use Rattle.lq_base.specs.declared.command.Target.{Target}
 use Rattle.lq_base.specs.declared.dialect.Dialect.{Dialect}
 use Rattle.lq_base.specs.declared.tracking.Tracked.{Tracked}
-use Rattle.lq_kinds.specs.Dialects.{AreFor}
+use Rattle.lq_kinds.specs.AnyChange.{AreFor}
 use Rattle.lq_model.proofs.Lists.{and_left, and_right, and_true}
 use Rattle.lq_model.specs.Catalogue.{Catalogue}
 use Rattle.lq_model.specs.Sound.{IsSound}
@@ -17,17 +17,15 @@ use Rattle.lq_seen.specs.View.{any_meaning}
 use Rattle.lq_stand.proofs.FirstRows.{undone_is_first, update_is_first}
 use Rattle.lq_stand.proofs.Places.{places_are_small}
 use Rattle.lq_stand.proofs.StaysClean.{calls_stay_clean}
-use Rattle.lq_stand.specs.First.{call_is_first, calls_are_first}
-use Rattle.lq_store.specs.Sound.{IsStore}
-use Rattle.lq_store.specs.State.{State}
+use Rattle.lq_stand.specs.Stays.{call_is_first, calls_are_first}
+use Rattle.lq_store.specs.Journal.{IsStore, State}
 use Rattle.lq_track.specs.Database.{Database}
 use Rattle.lq_turns.proofs.Made.{At, calls_both}
 use Rattle.lq_turns.proofs.Stays.{all_sound}
 use Rattle.lq_turns.proofs.TurnLeft.{ending_sound, turn_taken, twice}
 use Rattle.lq_turns.proofs.Updates.{locked_leaves, sets_taken}
-use Rattle.lq_turns.specs.Contents.{Contents, contents_of}
-use Rattle.lq_turns.specs.Rollback.{all_rolled, calls_if_finished, rolled_as, rollback_of, rows_kept, rows_undone, turns_made, undo_turns}
-use Rattle.lq_turns.specs.Script.{calls_unless, has_work, sets_calls, with_lock}
+use Rattle.lq_turns.specs.Deed.{Contents, contents_of}
+use Rattle.lq_turns.specs.Script.{all_rolled, calls_if_finished, rolled_as, rollback_of, rows_kept, rows_undone, turns_made, undo_turns, calls_unless, has_work, sets_calls, with_lock}
 use Rattle.lq_turns.specs.Session.{Session, all_called, called, left_by, session_on}
 use Rattle.lq_turns.specs.Settle.{all_settled, is_halt, own_choice, unless_stopped}
 use Rattle.lq_turns.specs.Stops.{Journal}

@@ -11,10 +11,7 @@ use Rattle.lq_run.specs.Commands.{HasDatabase, Leaves}
 use Rattle.lq_run.specs.Crashes.{LeftBehind, LeftInCommand}
 use Rattle.lq_run.specs.Left.{IsAtMostFreed, LeavesLock, RestsIn}
 use Rattle.lq_run.specs.Stands.{entries_of, entry_of}
-use Rattle.lq_store.specs.Crashes.{Crashes, CrashesLeave}
-use Rattle.lq_store.specs.Journal.{Entry, database as run_to, size_of_all}
-use Rattle.lq_store.specs.Sound.{IsStore}
-use Rattle.lq_store.specs.State.{State}
+use Rattle.lq_store.specs.Journal.{Crashes, CrashesLeave, Entry, database as run_to, size_of_all, IsStore, State}
 use Rattle.lq_tell.specs.declared.done.Done.{Done}
 use Rattle.lq_tell.specs.declared.status.Status.{Status}
 use Rattle.lq_track.specs.Database.{Database}

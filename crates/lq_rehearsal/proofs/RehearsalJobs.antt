@@ -7,12 +7,10 @@ use Rattle.lq_base.specs.declared.command.Target.TheVariants.{Count}
 use Rattle.lq_base.specs.declared.dialect.Dialect.{Dialect}
 use Rattle.lq_base.specs.declared.tracking.Tracked.{Tracked}
 use Rattle.lq_cli.specs.declared.line.Job.TheVariants.{UpdateTestingRollback}
-use Rattle.lq_kinds.specs.Dialects.{AreFor}
+use Rattle.lq_kinds.specs.AnyChange.{AreFor}
 use Rattle.lq_run.specs.Commands.{HasDatabase, Leaves}
 use Rattle.lq_run.specs.Crashes.{LeftBehind}
-use Rattle.lq_store.specs.Crashes.{Crashes}
-use Rattle.lq_store.specs.Sound.{IsStore}
-use Rattle.lq_store.specs.State.{State}
+use Rattle.lq_store.specs.Journal.{Crashes, IsStore, State}
 use Rattle.lq_tell.specs.declared.done.Done.{Done}
 use Rattle.lq_tell.specs.declared.status.Status.{Status}
 use Rattle.lq_tell.specs.declared.status.Status.TheVariants as status
@@ -26,14 +24,12 @@ use Rattle.lq_commands.proofs.Sequenced.{IsOver}
 use Rattle.lq_rehearsal.proofs.Shut.{rollback_over, update_over}
 use Rattle.lq_commands.proofs.Telling.{failed_tells}
 use Rattle.lq_commands.specs.Jobs.{DidJob}
-use Rattle.lq_rehearsal.specs.Joined.{is_done}
+use Rattle.lq_rehearsal.specs.Returns.{is_done, DidRun}
 use Rattle.lq_commands.specs.Outputs.{back_in}
 use Rattle.lq_commands.specs.Refusals.{Answers, IsFault, Passes, ends, own_halt, refusal, unready}
 use Rattle.lq_commands.specs.Rehearsal.{Run, EndsRun, after_update, came, rehearsal, rehearsal_refusal, takes_back, then_run, unrehearsed, updates, updates_again}
-use Rattle.lq_rehearsal.specs.Runs.{DidRun}
 use Rattle.lq_commands.specs.Scripts.{rollback_script, sets_script, settled_in, update_script, updated_in}
-use Rattle.lq_commands.specs.Tells.{EndsRollback, EndsUpdate}
-use Rattle.lq_commands.specs.Works.{CrashesIn, IsKept, IsReady, OnIts, Works, is_finished}
+use Rattle.lq_commands.specs.Works.{EndsRollback, EndsUpdate, CrashesIn, IsKept, IsReady, OnIts, Works, is_finished}
 use Rattle.lq_commands.specs.declared.given.Given.{Given}
 
 false_true : false ≡ true → ⊥

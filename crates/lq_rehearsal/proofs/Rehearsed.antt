@@ -9,9 +9,7 @@ use Rattle.lq_base.specs.declared.identity.Identity.{Identity}
 use Rattle.lq_base.specs.declared.run.Why.{Why}
 use Rattle.lq_run.specs.Commands.{HasDatabase, Leaves}
 use Rattle.lq_run.specs.Crashes.{LeftBehind}
-use Rattle.lq_store.specs.Crashes.{Crashes}
-use Rattle.lq_store.specs.Sound.{IsStore}
-use Rattle.lq_store.specs.State.{State}
+use Rattle.lq_store.specs.Journal.{Crashes, IsStore, State}
 use Rattle.lq_tell.specs.Lines.{warning_line, warning_lines}
 use Rattle.lq_tell.specs.declared.done.Done.{Done}
 use Rattle.lq_tell.specs.declared.status.Status.{Status}
@@ -25,12 +23,10 @@ use Rattle.lq_turns.specs.declared.stop.Stop.TheVariants.{Halted, Refused}
 use Rattle.lq_commands.proofs.Endings.{untouched_crashes, untouched_works, works_same}
 use Rattle.lq_rehearsal.proofs.OneAfterAnother.{behind_first, behind_then, crash_first, crash_then, unfinished_first, whole_left, works_then}
 use Rattle.lq_commands.proofs.Sequenced.{IsOver}
-use Rattle.lq_rehearsal.specs.Joined.{both_texts, is_done}
+use Rattle.lq_rehearsal.specs.Returns.{both_texts, is_done, DidRun}
 use Rattle.lq_commands.specs.Refusals.{Answers, ends}
 use Rattle.lq_commands.specs.Rehearsal.{Run, EndsRun, TellsRun, Told, then_run, told_unless}
-use Rattle.lq_rehearsal.specs.Runs.{DidRun}
-use Rattle.lq_commands.specs.Tells.{WarnsUpTo, status_by}
-use Rattle.lq_commands.specs.Works.{CrashesIn, OnIts, Works, is_finished}
+use Rattle.lq_commands.specs.Works.{WarnsUpTo, status_by, CrashesIn, OnIts, Works, is_finished}
 
 not_true : false ≡ true → ⊥
 not_true h = Prim.cc

@@ -9,17 +9,16 @@ use Rattle.lq_base.specs.declared.dialect.Dialect.{Dialect}
 use Rattle.lq_base.specs.declared.identity.Identity.{Identity}
 use Rattle.lq_base.specs.declared.tracking.Lock.{Lock}
 use Rattle.lq_base.specs.declared.tracking.Tracked.{Tracked}
-use Rattle.lq_kinds.specs.Dialects.{AreFor}
+use Rattle.lq_kinds.specs.AnyChange.{AreFor}
 use Rattle.lq_model.specs.Sound.{IsSound}
-use Rattle.lq_seen.specs.Printing.{Account, of_turns}
+use Rattle.lq_seen.specs.Telling.{Account, of_turns}
 use Rattle.lq_seen.specs.View.{any_meaning}
 use Rattle.lq_tell.specs.declared.status.Status.{Status}
 use Rattle.lq_tell.specs.declared.status.Status.TheVariants.{Locked}
 use Rattle.lq_track.specs.Database.{Database, SameDatabase, has_twin_rows}
 use Rattle.lq_turns.proofs.Made.{calls_both}
-use Rattle.lq_turns.specs.Contents.{Contents, contents_of}
-use Rattle.lq_turns.specs.Rollback.{rows_undone, undo_turns}
-use Rattle.lq_turns.specs.Script.{calls_unless}
+use Rattle.lq_turns.specs.Deed.{Contents, contents_of}
+use Rattle.lq_turns.specs.Script.{rows_undone, undo_turns, calls_unless}
 use Rattle.lq_turns.specs.Session.{Session, all_called, left_by, session_on}
 use Rattle.lq_turns.specs.Settle.{Settled, by_own, is_halt, own_choice}
 use Rattle.lq_turns.specs.declared.call.Call.{Call}

@@ -9,9 +9,8 @@ use Rattle.lq_run.proofs.Resting.{closing_frees}
 use Rattle.lq_seen.specs.View.{any_meaning}
 use Rattle.lq_track.specs.Database.{Database}
 use Rattle.lq_turns.proofs.Made.{calls_both}
-use Rattle.lq_turns.specs.Contents.{contents_of}
-use Rattle.lq_turns.specs.Rollback.{rollback_of, rows_kept, rows_undone, turns_made, undo_turns}
-use Rattle.lq_turns.specs.Script.{closing, has_work, opening, sets_calls, with_lock}
+use Rattle.lq_turns.specs.Deed.{contents_of}
+use Rattle.lq_turns.specs.Script.{rollback_of, rows_kept, rows_undone, turns_made, undo_turns, closing, has_work, opening, sets_calls, with_lock}
 use Rattle.lq_turns.specs.Session.{Session, all_called, called, session_on}
 use Rattle.lq_turns.specs.Settle.{is_halt, own_choice}
 use Rattle.lq_turns.specs.Stops.{Journal}

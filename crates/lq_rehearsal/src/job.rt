@@ -1,11 +1,11 @@
 ghost use Rattle.std.specs.List.{All};
 ghost use Rattle.std.specs.Prelude.{◌≡◌, ◌≤◌, Err, IfSome, false, true};
-ghost use Rattle.lq_base.specs.Character.{char_count};
-ghost use Rattle.lq_changelog.specs.ShortTexts.{HasShortTexts};
+ghost use Rattle.lq_base.specs.Number.{char_count};
+ghost use Rattle.lq_changelog.specs.Gathers.{HasShortTexts};
 ghost use Rattle.lq_commands.specs.Jobs.{DidJob, is_on_store, job_tag};
 ghost use Rattle.lq_commands.specs.Works.{IsReady};
-ghost use Rattle.lq_kinds.specs.Dialects.{AreFor};
-ghost use Rattle.lq_outside.specs.Count.{Rose};
+ghost use Rattle.lq_kinds.specs.AnyChange.{AreFor};
+ghost use Rattle.lq_outside.specs.Forms.{Rose};
 ghost use Rattle.lq_tell.specs.declared.status.Status.TheVariants.{DiskFault};
 ghost use Rattle.lq_turns.specs.Stops.{is_mark};
 

@@ -1,14 +1,14 @@
 ghost use Rattle.std.specs.List.{All};
 ghost use Rattle.std.specs.Prelude.{◌≡◌, ◌≤◌, ◌-◌, Err, None, false, length};
-ghost use Rattle.lq_changelog.specs.ShortTexts.{HasShortTexts};
+ghost use Rattle.lq_changelog.specs.Gathers.{HasShortTexts};
 ghost use Rattle.lq_cli.specs.declared.line.Job.TheVariants as job;
 ghost use Rattle.lq_commands.specs.Jobs.{DidJob};
 ghost use Rattle.lq_commands.specs.Refusals.{unready};
 ghost use Rattle.lq_commands.specs.Rehearsal.{after_update, takes_back, unrehearsed, updates_again};
-ghost use Rattle.lq_rehearsal.specs.Runs.{DidRun};
+ghost use Rattle.lq_rehearsal.specs.Returns.{DidRun};
 ghost use Rattle.lq_commands.specs.Works.{IsReady, OnIts};
-ghost use Rattle.lq_kinds.specs.Dialects.{AreFor};
-ghost use Rattle.lq_outside.specs.Count.{Rose};
+ghost use Rattle.lq_kinds.specs.AnyChange.{AreFor};
+ghost use Rattle.lq_outside.specs.Forms.{Rose};
 ghost use Rattle.lq_tell.specs.declared.status.Status.TheVariants.{DiskFault};
 ghost use Rattle.lq_turns.specs.Stops.{is_mark};
 

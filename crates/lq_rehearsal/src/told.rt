@@ -1,7 +1,7 @@
 ghost use Rattle.std.specs.List.{flat_map};
 ghost use Rattle.std.specs.Prelude.{◌≡◌, ◌++◌, IfOk};
 ghost use Rattle.lq_commands.specs.Refusals.{IsFault};
-ghost use Rattle.lq_rehearsal.specs.Joined.{both_texts, is_done};
+ghost use Rattle.lq_rehearsal.specs.Returns.{both_texts, is_done};
 ghost use Rattle.lq_tell.specs.Lines.{warning_line, warning_lines};
 ghost use Rattle.lq_tell.specs.declared.status.Status.TheVariants.{DiskFault};
 

@@ -1,2 +1,1 @@
 pub mod RenameColumn
-pub mod RenameColumnLaws

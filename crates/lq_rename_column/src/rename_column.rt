@@ -1,5 +1,5 @@
 ghost use Rattle.std.specs.Prelude.{◌≡◌, IfOk, true};
-ghost use Rattle.lq_tree.specs.Found.{Reads};
+ghost use Rattle.lq_tree.specs.Look.{Reads};
 ghost use Rattle.lq_rename_column.specs.RenameColumn.{is_for, rename_column, renames};
 
 use lq_base::{Dialect, Duplicate, Items, Kind, KindFault, Name, NoMemory, both};
@@ -81,8 +81,7 @@ impl RenameColumn {
 }
 
 impl Change for RenameColumn {
-    ghost use Rattle.lq_rename_column.specs.RenameColumn.{canonical_of, effect, gives, inverse, is_for, is_fresh};
-    ghost use Rattle.lq_rename_column.specs.RenameColumnLaws.{does, restores, returned, spelled, told};
+    ghost use Rattle.lq_rename_column.specs.RenameColumn.{canonical_of, effect, gives, inverse, is_for, is_fresh, does, restores, returned, spelled, told};
     ghost use Rattle.lq_rename_column.specs.declared.rename_column.RenameColumn.{RenameColumn};
 
     ghost Key = { RenameColumn };

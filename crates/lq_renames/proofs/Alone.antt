@@ -5,8 +5,7 @@ use Rattle.std.specs.Option.{option_map}
 use Rattle.lq_base.specs.Name.{is_named}
 use Rattle.lq_base.specs.declared.name.Name.{Name}
 use Rattle.lq_model.specs.Catalogue.{Table}
-use Rattle.lq_model.specs.Needs.{targets_table}
-use Rattle.lq_model.specs.RenameColumn.{name_at, names_at, with_column_renamed}
+use Rattle.lq_model.specs.Tables.{targets_table, name_at, names_at, with_column_renamed}
 use Rattle.lq_model.specs.declared.constraint.ForeignKey.{ForeignKey}
 use Rattle.lq_model.specs.declared.constraint.Key.{Key}
 use Rattle.lq_model.proofs.Lists.{or_left, or_right}

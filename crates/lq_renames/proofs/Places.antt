@@ -13,11 +13,10 @@ use Rattle.lq_model.specs.Catalogue.{Catalogue, Table, no_table, table_of, the_t
 use Rattle.lq_model.proofs.Maps.{sorted_entries}
 use Rattle.std.specs.List.Sorted.{IsStrictlySortedBy}
 use Rattle.std.specs.Option.{unwrap_or}
-use Rattle.lq_rows.specs.Answers.{Continues}
+use Rattle.lq_rows.specs.Stored.{Continues, Stored, with_shape}
 use Rattle.lq_rows.specs.declared.shape.Shape.{Shape}
 use Rattle.lq_rows.proofs.Continued.{goes_further, stays}
 use Rattle.lq_parts.specs.Steps.{edit_at, tables_of}
-use Rattle.lq_rows.specs.Stored.{Stored, with_shape}
 use Rattle.lq_model.proofs.Lists.{named_itself, other_way}
 
 -- the first so many changed

@@ -10,10 +10,8 @@ use Rattle.lq_base.specs.declared.dialect.Dialect.{Dialect}
 use Rattle.lq_base.specs.declared.dialect.Dialect.TheVariants.{Mysql, Postgresql}
 use Rattle.lq_base.specs.declared.name.Name.{Name}
 use Rattle.lq_model.specs.Catalogue.{Catalogue, Table, View, table_of, the_table, view_of, with_view, without_view}
-use Rattle.lq_model.specs.NameSpaces.{is_taken}
-use Rattle.lq_model.specs.Needs.{targets_table}
-use Rattle.lq_model.specs.Rename.{retarget, retargeted, view_renamed}
-use Rattle.lq_model.specs.Reserved.{is_reserved, is_tracking, lock_key, takes_lock_key}
+use Rattle.lq_model.specs.NameSpaces.{is_taken, is_reserved, is_tracking, lock_key, takes_lock_key}
+use Rattle.lq_model.specs.Tables.{targets_table, retarget, retargeted, view_renamed}
 use Rattle.lq_model.specs.declared.caller.By.{By}
 use Rattle.lq_model.specs.declared.caller.By.TheVariants.{Program, User}
 use Rattle.lq_model.specs.declared.constraint.ForeignKey.{ForeignKey}
@@ -21,7 +19,7 @@ use Rattle.lq_model.proofs.Decide.{none_from_unless}
 use Rattle.lq_model.proofs.Lists.{or_left, or_right}
 use Rattle.lq_model.proofs.Maps.{lookup-remove_entry, sorted-insert_entry, sorted-remove_entry, sorted_entries, sorted_keys}
 use Rattle.lq_model.proofs.Sequences.{free_view}
-use Rattle.lq_parts.specs.Kept.{with_renamed}
+use Rattle.lq_parts.specs.Taken.{with_renamed}
 
 either : (a b : Bool) → (a || (b || false)) ≡ ((a || false) || (b || false))
 either true b = refl

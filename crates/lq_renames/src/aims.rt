@@ -2,11 +2,10 @@ ghost use Rattle.std.specs.List.Sorted.{IsStrictlySortedBy};
 ghost use Rattle.std.specs.Map.{keys_of};
 ghost use Rattle.std.specs.Prelude.{◌≡◌, ◌<◌, IfOk, OnOk, length, map};
 ghost use Rattle.lq_base.specs.Name.{name_cmp};
-ghost use Rattle.lq_model.specs.Names.{renamed};
-ghost use Rattle.lq_model.specs.Rename.{retarget, retargeted};
+ghost use Rattle.lq_model.specs.Catalogue.{renamed};
+ghost use Rattle.lq_model.specs.Tables.{retarget, retargeted};
 ghost use Rattle.lq_parts.specs.Steps.{edit_at};
-ghost use Rattle.lq_rows.specs.Answers.{Continues};
-ghost use Rattle.lq_rows.specs.Stored.{with_shape};
+ghost use Rattle.lq_rows.specs.Stored.{Continues, with_shape};
 
 use lq_base::{Duplicate, Items, Name, NoMemory, both};
 use lq_model::ForeignKey;

@@ -1,6 +1,5 @@
 ghost use Rattle.std.specs.Prelude.{◌≡◌, ◌||◌, is_none, not};
-ghost use Rattle.lq_model.specs.Catalogue.{table_of, the_table};
-ghost use Rattle.lq_model.specs.TableNames.{has_column};
+ghost use Rattle.lq_model.specs.Catalogue.{table_of, the_table, has_column};
 
 use lq_base::Name;
 use lq_parts::Parts;

@@ -3,9 +3,9 @@ ghost use Rattle.lq_arm.specs.Verdict.{tests_of, verdict_of};
 ghost use Rattle.lq_base.specs.declared.dialect.Dialect as kinds;
 ghost use Rattle.lq_decide.specs.Faults.{no_faults};
 ghost use Rattle.lq_model.specs.Plan.{decide};
-ghost use Rattle.lq_model.specs.RenameColumn as spec;
+ghost use Rattle.lq_model.specs.Tables as spec;
 ghost use Rattle.lq_model.specs.Sound.{IsSound};
-ghost use Rattle.lq_rows.specs.Answers.{Answers};
+ghost use Rattle.lq_rows.specs.Stored.{Answers};
 
 use crate::asked::{has_column_of, is_column_missing};
 use crate::names::is_shown;

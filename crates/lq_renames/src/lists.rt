@@ -1,6 +1,6 @@
 ghost use Rattle.std.specs.Option.{option_map};
 ghost use Rattle.std.specs.Prelude.{◌≡◌, IfOk, map};
-ghost use Rattle.lq_model.specs.RenameColumn.{name_at, names_at};
+ghost use Rattle.lq_model.specs.Tables.{name_at, names_at};
 ghost use Rattle.lq_renames.specs.Listed.{column_at, foreign_at, index_at, key_at, unique_at};
 
 use lq_base::{Duplicate, Items, Name, NoMemory, both};

@@ -1,8 +1,8 @@
 ghost use Rattle.std.specs.Prelude.{◌≡◌, ◌∷◌, [], ◌||◌};
 ghost use Rattle.lq_model.specs.NameSpaces as spaces;
-ghost use Rattle.lq_model.specs.Names.{is_in};
-ghost use Rattle.lq_model.specs.Needs.{is_shown, is_viewed};
-ghost use Rattle.lq_model.specs.Reserved as reserved;
+ghost use Rattle.lq_model.specs.Catalogue.{is_in};
+ghost use Rattle.lq_model.specs.Tables.{is_shown, is_viewed};
+ghost use Rattle.lq_model.specs.NameSpaces as reserved;
 
 use lq_arm::{any_is_inner, takes_lock_key};
 use lq_base::{Dialect, Name};

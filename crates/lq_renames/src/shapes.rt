@@ -2,10 +2,9 @@ ghost use Rattle.std.specs.Prelude.{◌≡◌, ◌<◌, ◌||◌, IfOk, OnOk, le
 ghost use Rattle.std.specs.List.Sorted.{IsStrictlySortedBy};
 ghost use Rattle.std.specs.Map.{keys_of};
 ghost use Rattle.lq_base.specs.Name.{is_named, name_cmp};
-ghost use Rattle.lq_model.specs.RenameColumn.{with_column_renamed};
+ghost use Rattle.lq_model.specs.Tables.{with_column_renamed};
 ghost use Rattle.lq_parts.specs.Steps.{edit_at};
-ghost use Rattle.lq_rows.specs.Answers.{Continues};
-ghost use Rattle.lq_rows.specs.Stored.{with_shape};
+ghost use Rattle.lq_rows.specs.Stored.{Continues, with_shape};
 
 use crate::lists::{columns, foreign_keys, indexes, key, uniques};
 use lq_base::{Duplicate, Name, NoMemory, both};

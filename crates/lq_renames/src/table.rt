@@ -6,9 +6,9 @@ ghost use Rattle.lq_base.specs.Name.{name_cmp};
 ghost use Rattle.lq_decide.specs.Faults.{no_faults};
 ghost use Rattle.lq_model.specs.Catalogue.{table_of, view_of, without_view};
 ghost use Rattle.lq_model.specs.Plan.{decide};
-ghost use Rattle.lq_model.specs.Rename as spec;
+ghost use Rattle.lq_model.specs.Tables as spec;
 ghost use Rattle.lq_model.specs.Sound.{IsSound};
-ghost use Rattle.lq_rows.specs.Answers.{Answers, Continues};
+ghost use Rattle.lq_rows.specs.Stored.{Answers, Continues};
 
 use crate::aims::retarget_all;
 use crate::names::{are_reserved, is_taken_to, is_viewed};

@@ -12,13 +12,12 @@ use Rattle.lq_base.specs.declared.identity.Identity.{Identity}
 use Rattle.lq_base.specs.declared.literal.Literal.TheVariants as literal
 use Rattle.lq_base.specs.declared.name.Name.{Name}
 use Rattle.lq_hand.proofs.Laying.{then_lays}
-use Rattle.lq_hand.specs.Hand.{AreTurns}
-use Rattle.lq_hand.specs.TurnCalls.{Lays}
+use Rattle.lq_hand.specs.Hand.{AreTurns, Lays}
 use Rattle.lq_model.proofs.Lists.{and_left, and_right, and_true, named_itself, same_name}
-use Rattle.lq_model.specs.Literals.{literal_of}
+use Rattle.lq_model.specs.Kinds.{literal_of}
 use Rattle.lq_model.specs.Sound.{is_key_name}
-use Rattle.lq_model.specs.Spelled.{is_literal}
-use Rattle.lq_model.specs.Statement.{is_foreign, is_index, is_key, is_name_list, is_pg, is_query, is_statement}
+use Rattle.lq_model.specs.Comparison.{is_literal}
+use Rattle.lq_model.specs.Step.{is_foreign, is_index, is_key, is_name_list, is_pg, is_query, is_statement}
 use Rattle.lq_model.specs.declared.constraint.ForeignKey.{ForeignKey}
 use Rattle.lq_model.specs.declared.index.Index.{Index}
 use Rattle.lq_model.specs.declared.statement.Statement.{Statement}

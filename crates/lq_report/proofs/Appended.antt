@@ -1,6 +1,6 @@
 -- What was appended in several steps, as one text.
 use Rattle.std.proofs.Common.{◌≡◌, ◌∙◌, ℕ, List, ◌++◌, Result, Ok, Err, OnOk, ap, append_assoc}
-use Rattle.lq_report.specs.Log.{log_line}
+use Rattle.lq_report.specs.Output.{log_line}
 
 pub on_ok : {X E A B : Type 0} (r : Result X E) → OnOk r A → (A → B) → OnOk r B
 on_ok (Ok x) a f = f a

@@ -10,7 +10,7 @@ use Rattle.std.proofs.lemmas.List.{take-append-drop, drop_all, get_or_append_lef
 use Rattle.std.proofs.lemmas.List.Sums.{position_or_len_is}
 use borrow.Author.Tests.{ne_eqb}
 use Rattle.lq_base.specs.Number.{is_digits}
-use Rattle.lq_base.specs.SqlByte.{begins}
+use Rattle.lq_base.specs.Sql.{begins}
 use Rattle.std.proofs.lemmas.Str.Pattern.{NoCharPasses-char, drop_at_char}
 use Rattle.std.proofs.lemmas.Bool.{eq-eqb}
 use Rattle.std.proofs.lemmas.Bool.Decides.{eqb_tells}

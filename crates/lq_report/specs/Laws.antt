@@ -1,6 +1,6 @@
 -- What holds of the definitions.
-use Rattle.std.specs.Prelude.{◌≡◌, ℕ, List, ◌++◌, false, true, Some, None, codes}
 use Rattle.std.specs.List.{after_first, list_any}
+use Rattle.std.specs.Prelude.{List, None, Some, codes, false, true, ℕ, ◌++◌, ◌≡◌}
 use Rattle.lq_report.specs.Mark.{form_text, is_count, mark_of}
 use Rattle.lq_report.specs.declared.mark.Form.{Form}
 use Rattle.lq_words.specs.Words.{is_bar}

@@ -1,12 +1,12 @@
 -- The mark in LOCKEDBY, which tells the statement at which a changeset was that is not one transaction.
-use Rattle.std.specs.Prelude.{ℕ, List, [], ◌∷◌, ◌++◌, ◌==◌, ◌&&◌, not, Bool, true, false, drop, slice_index, Option, Some, None, option_and_then, codes, if◌then◌else◌}
 use Rattle.std.specs.List.{after_first}
-use Rattle.lq_base.specs.declared.tracking.Lock.{Lock}
+use Rattle.std.specs.Prelude.{Bool, List, None, Option, Some, [], codes, drop, false, if◌then◌else◌, not, option_and_then, slice_index, true, ℕ, ◌&&◌, ◌++◌, ◌==◌, ◌∷◌}
 use Rattle.lq_base.specs.Number.{is_digits}
-use Rattle.lq_base.specs.SqlByte.{begins}
-use Rattle.lq_words.specs.Words.{is_bar}
+use Rattle.lq_base.specs.Sql.{begins}
+use Rattle.lq_base.specs.declared.tracking.Lock.{Lock}
 use Rattle.lq_report.specs.declared.mark.Form.{Form}
 use Rattle.lq_report.specs.declared.mark.Form.TheVariants.{Back, Run, Undo}
+use Rattle.lq_words.specs.Words.{is_bar}
 
 -- what stands before the last `|` of a text, and behind it
 unfoldable pub at_last_bar : List ℕ → Option (List ℕ × List ℕ)

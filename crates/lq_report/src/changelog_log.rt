@@ -1,5 +1,5 @@
 ghost use Rattle.std.specs.Prelude.{◌≡◌, ◌++◌, OnOk};
-ghost use Rattle.lq_report.specs.Log.{no_file_line, file_fault_line, line_fault_line, key_fault_line, dialect_fault_line};
+ghost use Rattle.lq_report.specs.Output.{no_file_line, file_fault_line, line_fault_line, key_fault_line, dialect_fault_line};
 
 use crate::log_line::{append_line, append_parts};
 use crate::parts::append_counted;

@@ -22,7 +22,7 @@ pub enum FixedLine {
 }
 
 impl FixedLine {
-    ghost use Rattle.lq_report.specs.Log.{fixed_line};
+    ghost use Rattle.lq_report.specs.Output.{fixed_line};
 
     /// The line, with its end.
     #[tactic(auto, unfolding(crate::specs::Log::fixed_line))]

@@ -1,6 +1,6 @@
 ghost use Rattle.std.specs.List.{flat_map};
 ghost use Rattle.std.specs.Prelude.{◌≡◌, ◌++◌, IfOk, OnOk};
-ghost use Rattle.lq_base.specs.Tracking.{identity_text};
+ghost use Rattle.lq_base.specs.Name.{identity_text};
 ghost use Rattle.lq_report.specs.Output.{history_line, history_text, tag_behind, tracked_identity};
 
 use crate::parts::append_counted;

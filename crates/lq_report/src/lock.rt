@@ -1,9 +1,8 @@
 ghost use Rattle.std.specs.Option.{ForSome};
 ghost use Rattle.std.specs.Prelude.{◌≡◌, ◌++◌, IfOk, OnOk, codes, option_map};
 ghost use Rattle.lq_base.specs.Moment.{IsMoment};
-ghost use Rattle.lq_report.specs.Log.{held_line, locked_lines, log_line, unrecorded_log_line};
+ghost use Rattle.lq_report.specs.Output.{held_line, locked_lines, log_line, unrecorded_log_line, unrecorded_line, release_text};
 ghost use Rattle.lq_report.specs.Mark.{lock_mark, mark_text};
-ghost use Rattle.lq_report.specs.Output.{unrecorded_line, release_text};
 
 use crate::log_line::append_line;
 use crate::mark::{Mark, append_mark, mark_of};

@@ -1,6 +1,6 @@
 ghost use Rattle.std.specs.List.{flat_map};
 ghost use Rattle.std.specs.Prelude.{◌≡◌, ◌++◌, OnOk};
-ghost use Rattle.lq_report.specs.Log.{log_line};
+ghost use Rattle.lq_report.specs.Output.{log_line};
 
 use lq_base::{NoMemory, Text};
 use lq_words::plain;

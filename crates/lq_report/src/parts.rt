@@ -1,6 +1,6 @@
 ghost use Rattle.std.specs.Fmt.{decimal};
 ghost use Rattle.std.specs.Prelude.{◌≡◌, ◌++◌, OnOk};
-ghost use Rattle.lq_base.specs.Tracking.{identity_text};
+ghost use Rattle.lq_base.specs.Name.{identity_text};
 ghost use Rattle.lq_words.specs.Words.{place_text, why_text};
 
 use lq_base::{Identity, NoMemory, Text, Why, append_whole};

@@ -1,5 +1,5 @@
 ghost use Rattle.std.specs.Prelude.{◌≡◌, ◌++◌, ◌==◌, OnOk, length};
-ghost use Rattle.lq_report.specs.Log.{warning_line, halted_line, refused_line, no_tag_line, not_reversible_line, not_writable_line, damaged_line, full_line, busy_line, has_file_alone, undoable_text};
+ghost use Rattle.lq_report.specs.Output.{warning_line, halted_line, refused_line, no_tag_line, not_reversible_line, not_writable_line, damaged_line, full_line, busy_line, has_file_alone, undoable_text};
 
 use crate::log_line::{append_line, append_parts};
 use crate::parts::{append_counted, append_named, append_place, append_why};

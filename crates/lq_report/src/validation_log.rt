@@ -1,5 +1,5 @@
 ghost use Rattle.std.specs.Prelude.{◌≡◌, ◌++◌, OnOk};
-ghost use Rattle.lq_report.specs.Log.{twice_line, changed_line};
+ghost use Rattle.lq_report.specs.Output.{twice_line, changed_line};
 
 use crate::log_line::append_line;
 use crate::parts::append_named;

@@ -3,7 +3,7 @@ use Rattle.std.proofs.Common.{◌≡◌, ◌&&◌, Bool, true, false, [], Option
 use Rattle.std.specs.Option.{MatchOption}
 use Rattle.lq_base.specs.declared.dialect.Dialect.{Dialect}
 use Rattle.lq_chain.specs.History.{History, history}
-use Rattle.lq_codec.specs.Sound.{are_in_order, has_sound_objects, has_sound_rows, is_sound}
+use Rattle.lq_codec.specs.State.{are_in_order, has_sound_objects, has_sound_rows, is_sound}
 use Rattle.lq_model.specs.Catalogue.{Catalogue}
 use Rattle.lq_model.specs.Sound.{IsSound}
 use Rattle.laws_codec.proofs.Read.{is_tested}

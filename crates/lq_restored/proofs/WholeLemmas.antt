@@ -3,7 +3,7 @@ use Rattle.std.proofs.Common.{◌≡◌, ◌&&◌, ◌++◌, ◌∷◌, true, Li
 use Rattle.std.specs.FinMap.Entries.{is_sorted}
 use Rattle.lq_base.specs.Name.{name_cmp}
 use Rattle.lq_base.specs.declared.name.Name.{Name}
-use Rattle.lq_codec.specs.Sound.{are_in_order}
+use Rattle.lq_codec.specs.State.{are_in_order}
 use Rattle.lq_model.specs.Catalogue.{Catalogue, Sequence, Table, View, with_new, with_sequence, with_view}
 use Rattle.lq_model.proofs.Lists.{and_left, and_right}
 use Rattle.lq_restored.specs.With.{with_sequences, with_tables, with_views}

@@ -1,5 +1,5 @@
 ghost use Rattle.std.specs.Prelude.{◌≡◌, IfOk, true};
-ghost use Rattle.lq_codec.specs.Sound.{are_in_order};
+ghost use Rattle.lq_codec.specs.State.{are_in_order};
 
 use crate::tables::put_tables;
 use crate::views::{put_sequences, put_views};

@@ -1,6 +1,6 @@
 ghost use Rattle.std.specs.Prelude.{◌≡◌, [], IfOk, MatchOption, false, true};
 ghost use Rattle.lq_chain.specs.History.{history};
-ghost use Rattle.lq_codec.specs.Sound.{is_sound};
+ghost use Rattle.lq_codec.specs.State.{is_sound};
 ghost use Rattle.lq_model.specs.Sound.{IsSound};
 
 use crate::filled::{are_in_order, filled};

@@ -14,16 +14,16 @@ use Rattle.lq_chain.specs.Marks.{replaced}
 use Rattle.lq_decide.specs.Faults.{meets, names_set}
 use Rattle.lq_model.proofs.Lists.{any_same}
 use Rattle.lq_model.specs.Catalogue.{Catalogue, Table, with_table}
-use Rattle.lq_model.specs.ResultTests.{lacks_parent}
+use Rattle.lq_model.specs.Plan.{lacks_parent}
 use Rattle.lq_model.specs.Truth.{takes}
-use Rattle.lq_model.specs.Update.{edited, set_all}
+use Rattle.lq_model.specs.Rows.{edited, set_all}
 use Rattle.lq_model.specs.declared.test.Test.{Test}
 use Rattle.lq_one_row.proofs.OnlyLemmas.{all_taken, mapped}
 use Rattle.lq_one_row.specs.Only.{IsOnly}
 use Rattle.lq_parts.proofs.OneRow.{one_replaced}
 use Rattle.lq_rows.specs.Stored.{with_all, with_row_at}
 use Rattle.lq_rowops.proofs.UpdateLemmas.{any_edits, replaced_edits}
-use Rattle.lq_rowops.specs.Edits.{aims, edit, is_some_such, strays}
+use Rattle.lq_rowops.specs.InsertTests.{aims, edit, is_some_such, strays}
 
 same_nat : (a b : ℕ) → nat_eq a b ≡ true → a ≡ b
 same_nat a b is = grind (arith, nat_tests, is)

@@ -5,7 +5,7 @@ use Rattle.lq_base.specs.Name.{is_named}
 use Rattle.lq_base.specs.declared.name.Name.{Name}
 use Rattle.lq_base.specs.declared.value.Value.{Value}
 use Rattle.lq_model.proofs.Maps.{not_some, some_same}
-use Rattle.lq_model.specs.Update.{set_in}
+use Rattle.lq_model.specs.Rows.{set_in}
 use Rattle.lq_model.specs.declared.column.Column.{Column}
 
 past : {A : Type 0} (xs : List A) (at : ℕ) (v : A) → length xs ≤ at → slice_set xs at v ≡ xs

@@ -7,26 +7,19 @@ use Rattle.lq_base.specs.declared.dialect.Dialect.{Dialect}
 use Rattle.lq_base.specs.declared.literal.Literal.{Literal}
 use Rattle.lq_base.specs.declared.reason.Reason.{Reason}
 use Rattle.lq_base.specs.declared.reason.Reason.TheVariants as reason
-use Rattle.lq_model.specs.Reasons.{unless}
+use Rattle.lq_model.specs.Plan.{unless, decide, most_rows, is_twin}
 use Rattle.lq_model.specs.declared.caller.By.{By}
 use Rattle.lq_model.specs.declared.caller.By.TheVariants.{Program}
 use Rattle.lq_base.specs.declared.name.Name.{Name}
 use Rattle.lq_base.specs.declared.value.Value.{Value}
-use Rattle.lq_model.specs.Catalogue.{Catalogue, Table, table_of, the_table, with_table}
-use Rattle.lq_model.specs.Insert.{insert, next_of, stated, row_of}
-use Rattle.lq_model.specs.Literals.{is_wide, is_wrong, value_in}
-use Rattle.lq_model.specs.Names.{repeats}
-use Rattle.lq_model.specs.Reserved.{is_reserved}
-use Rattle.lq_model.specs.TableNames.{column_missing}
-use Rattle.lq_model.specs.Plan.{decide}
-use Rattle.lq_model.specs.ResultTests.{most_rows}
-use Rattle.lq_model.specs.Row.{has_bad_null, is_null, picked, same_values}
+use Rattle.lq_model.specs.Catalogue.{Catalogue, Table, table_of, the_table, with_table, repeats, column_missing, has_bad_null, is_null, picked, same_values}
+use Rattle.lq_model.specs.Rows.{insert, next_of, stated, row_of}
+use Rattle.lq_model.specs.Kinds.{is_wide, is_wrong, value_in}
+use Rattle.lq_model.specs.NameSpaces.{is_reserved}
 use Rattle.lq_model.specs.Sound.{IsSound}
 use Rattle.lq_model.specs.declared.column.Column.{Column}
 use Rattle.lq_model.specs.declared.constraint.ForeignKey.{ForeignKey}
-use Rattle.lq_decide.specs.InsertFaults.{insert_faults, is_orphan, lacks_parent_of}
-use Rattle.lq_model.specs.Twin.{is_twin}
-use Rattle.lq_decide.specs.Judged.{judged}
+use Rattle.lq_decide.specs.Faults.{insert_faults, is_orphan, lacks_parent_of, judged}
 use Rattle.lq_decide.proofs.Inserted.{insert_judged}
 use Rattle.lq_rowops.specs.InsertTests.{inserted, new_row}
 use Rattle.lq_rows.specs.Stored.{has_values_in}

@@ -6,13 +6,12 @@ use Rattle.lq_base.specs.declared.name.Name.{Name}
 use Rattle.lq_base.specs.declared.value.Value.{Value}
 use Rattle.lq_chain.specs.History.{History}
 use Rattle.lq_model.specs.Catalogue.{Catalogue, Table, table_of, the_table}
-use Rattle.lq_model.specs.Insert.{stated}
+use Rattle.lq_model.specs.Rows.{stated}
 use Rattle.lq_model.specs.declared.caller.By.TheVariants.{Program}
 use Rattle.lq_model.specs.declared.column.Column.{Column}
-use Rattle.lq_rows.specs.Answers.{Answers, Means}
+use Rattle.lq_rows.specs.Stored.{Answers, Means}
 use Rattle.lq_rows.proofs.Continued.{stays}
-use Rattle.lq_rowops.specs.InsertTests.{inserted, new_row, row_meant}
-use Rattle.lq_rowops.specs.Planned.{PlansRow}
+use Rattle.lq_rowops.specs.InsertTests.{inserted, new_row, row_meant, PlansRow}
 use Rattle.lq_rows.specs.declared.fault.RunFault.{RunFault}
 use Rattle.lq_rows.specs.declared.fault.RunFault.TheVariants.{OutOfMemory, Refused}
 use Rattle.lq_rowops.proofs.InsertDecides.{insert_bad}

@@ -10,15 +10,13 @@ use Rattle.lq_decide.proofs.OneTable.{none_loose}
 use Rattle.lq_decide.specs.Faults.{meets, names_set, set_child}
 use Rattle.lq_model.proofs.Lists.{and_no_right, any-append, any_less, not_false, or_left, or_right, same_name, true_false, whether}
 use Rattle.lq_model.proofs.Untouched.{same_list}
-use Rattle.lq_model.specs.Catalogue.{Catalogue, table_of, the_table, with_table}
-use Rattle.lq_model.specs.Names.{same_names}
-use Rattle.lq_model.specs.ResultTests.{is_loose, lacks_parent, misses_target}
+use Rattle.lq_model.specs.Catalogue.{Catalogue, table_of, the_table, with_table, same_names, target_lists}
+use Rattle.lq_model.specs.Plan.{is_loose, lacks_parent, misses_target}
 use Rattle.lq_model.specs.Sound.{IsSound}
-use Rattle.lq_model.specs.TableNames.{target_lists}
-use Rattle.lq_model.specs.Update.{edited}
+use Rattle.lq_model.specs.Rows.{edited}
 use Rattle.lq_model.specs.declared.constraint.ForeignKey.{ForeignKey}
 use Rattle.lq_model.specs.declared.test.Test.{Test}
-use Rattle.lq_rowops.specs.Edits.{sets_target}
+use Rattle.lq_rowops.specs.InsertTests.{sets_target}
 
 -- a test of two lists, one after another
 pub any_two : {A : Type 0} (p : A → Bool) (a b : List A) → list_any p (a ++ b) ≡ (list_any p a || list_any p b)

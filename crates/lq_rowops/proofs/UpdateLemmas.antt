@@ -16,28 +16,23 @@ use Rattle.lq_base.specs.declared.value.Value.{Value}
 use Rattle.lq_chain.specs.History.{History, changed}
 use Rattle.lq_chain.specs.Marks.{replaced}
 use Rattle.lq_decide.proofs.Updated.{update_judged}
-use Rattle.lq_decide.specs.Faults.{meets, names_set, set_orphan, update_faults}
-use Rattle.lq_decide.specs.Judged.{judged}
+use Rattle.lq_decide.specs.Faults.{meets, names_set, set_orphan, update_faults, judged}
 use Rattle.lq_model.proofs.Decide.{here, none_from_unless}
 use Rattle.lq_model.proofs.Kept.{the_table-with_table}
 use Rattle.lq_model.proofs.Lists.{any-append, any-map, any_same, named_itself, or_left, other_way, same_name, whether}
-use Rattle.lq_model.specs.Catalogue.{Catalogue, Table, table_of, the_table, with_table}
-use Rattle.lq_model.specs.Names.{is_in}
-use Rattle.lq_model.specs.Plan.{Plan, decide}
-use Rattle.lq_model.specs.Reasons.{unless}
-use Rattle.lq_model.specs.ResultTests.{lacks_parent}
-use Rattle.lq_model.specs.Row.{has_bad_null}
+use Rattle.lq_model.specs.Catalogue.{Catalogue, Table, table_of, the_table, with_table, is_in, has_bad_null}
+use Rattle.lq_model.specs.Plan.{Plan, decide, unless, lacks_parent}
 use Rattle.lq_model.specs.Sound.{IsSound}
 use Rattle.lq_model.specs.Truth.{takes}
-use Rattle.lq_model.specs.Update.{edited, set_all, update}
+use Rattle.lq_model.specs.Rows.{edited, set_all, update}
 use Rattle.lq_model.specs.declared.caller.By.{By}
 use Rattle.lq_model.specs.declared.column.Column.{Column}
 use Rattle.lq_model.specs.declared.constraint.ForeignKey.{ForeignKey}
 use Rattle.lq_model.specs.declared.test.Test.{Test}
-use Rattle.lq_rowops.specs.Edits.{aims, edit, is_some_such, loses, strays}
+use Rattle.lq_rowops.specs.InsertTests.{aims, edit, is_some_such, loses, strays}
 use Rattle.lq_rowops.specs.Updated.{result_tests, stated_tests}
 use Rattle.lq_rows.proofs.Continued.{goes_on, stays}
-use Rattle.lq_rows.specs.Answers.{Carries, Continues, Means}
+use Rattle.lq_rows.specs.Stored.{Carries, Continues, Means}
 use Rattle.lq_rows.specs.declared.fault.RunFault.{RunFault}
 use Rattle.lq_rows.specs.declared.fault.RunFault.TheVariants.{OutOfMemory, Refused}
 

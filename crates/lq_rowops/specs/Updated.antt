@@ -5,19 +5,16 @@ use Rattle.lq_arm.specs.declared.tests.Tests.{Tests}
 use Rattle.lq_base.specs.declared.literal.Literal.{Literal}
 use Rattle.lq_base.specs.declared.name.Name.{Name}
 use Rattle.lq_decide.specs.Faults.{names_set, set_child}
-use Rattle.lq_model.specs.Catalogue.{Catalogue, Table, table_of, the_table}
+use Rattle.lq_model.specs.Catalogue.{Catalogue, Table, column_missing, has_bad_null, repeats, table_of, the_table}
 use Rattle.lq_model.specs.Comparison.{compares_wrongly}
-use Rattle.lq_model.specs.Literals.{is_wide, is_wrong}
-use Rattle.lq_model.specs.Names.{repeats}
-use Rattle.lq_model.specs.Reserved.{is_reserved}
-use Rattle.lq_model.specs.ResultTests.{unique_lists}
-use Rattle.lq_model.specs.Row.{has_bad_null}
-use Rattle.lq_model.specs.TableNames.{column_missing}
+use Rattle.lq_model.specs.Kinds.{is_wide, is_wrong}
+use Rattle.lq_model.specs.NameSpaces.{is_reserved}
+use Rattle.lq_model.specs.Plan.{unique_lists}
+use Rattle.lq_model.specs.Rows.{set_all, set_value_of}
 use Rattle.lq_model.specs.Truth.{names_in, takes}
-use Rattle.lq_model.specs.Update.{set_all, set_value_of}
 use Rattle.lq_model.specs.declared.caller.By.{By}
 use Rattle.lq_model.specs.declared.test.Test.{Test}
-use Rattle.lq_rowops.specs.Edits.{edit, loses, set_twins, strays, value_set}
+use Rattle.lq_rowops.specs.InsertTests.{edit, loses, set_twins, strays, value_set}
 use Rattle.lq_rowops.specs.declared.changing.Changes.{Changes}
 use Rattle.lq_rowops.specs.declared.changing.NewRows.{NewRows}
 use Rattle.lq_rowops.specs.declared.updating.Stated.{Stated}

@@ -2,10 +2,10 @@ ghost use Rattle.std.specs.Option.{option_and_then};
 ghost use Rattle.std.specs.Prelude.{◌≡◌, ◌<◌, IfOk, IfSome, OnErr, OnOk, is_some, length, map, slice_get, true};
 ghost use Rattle.lq_chain.specs.History.{changed};
 ghost use Rattle.lq_model.specs.Catalogue.{table_of, the_table, with_table};
-ghost use Rattle.lq_model.specs.Update.{edited};
+ghost use Rattle.lq_model.specs.Rows.{edited};
 ghost use Rattle.lq_one_row.specs.Only.{IsOnly};
 ghost use Rattle.lq_rows.specs.Stored.{with_row_at};
-ghost use Rattle.lq_rowops.specs.Edits.{edit, value_set};
+ghost use Rattle.lq_rowops.specs.InsertTests.{edit, value_set};
 ghost use Rattle.lq_rowops.specs.Updated.{AreChanges, AreNewRows};
 
 use crate::edit::{count, edit, edits, has_null, is_null_in};

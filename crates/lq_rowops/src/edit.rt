@@ -1,10 +1,10 @@
 ghost use Rattle.std.specs.List.{filter, list_any, position};
 ghost use Rattle.std.specs.Prelude.{◌≡◌, IfOk, OnOk, length, map};
 ghost use Rattle.lq_base.specs.Name.{is_named};
-ghost use Rattle.lq_model.specs.Row.{has_bad_null};
-ghost use Rattle.lq_model.specs.Update as spec;
+ghost use Rattle.lq_model.specs.Catalogue.{has_bad_null};
+ghost use Rattle.lq_model.specs.Rows as spec;
 ghost use Rattle.std.specs.Option.{is_some};
-ghost use Rattle.lq_rowops.specs.Edits.{edit, is_some_such, value_set};
+ghost use Rattle.lq_rowops.specs.InsertTests.{edit, is_some_such, value_set};
 
 use crate::row::has_bad_null;
 use lq_base::{Duplicate, Literal, Name, NoMemory, Value};

@@ -2,12 +2,11 @@ ghost use Rattle.std.specs.List.{list_any};
 ghost use Rattle.std.specs.Option.{option_copied};
 ghost use Rattle.std.specs.Prelude.{◌≡◌, IfOk, false, map};
 ghost use Rattle.lq_decide.specs.Faults.{meets, names_set, set_child};
-ghost use Rattle.lq_model.specs.Catalogue.{the_table};
-ghost use Rattle.lq_model.specs.ResultTests.{is_loose, lacks_parent};
-ghost use Rattle.lq_model.specs.TableNames.{key_list};
+ghost use Rattle.lq_model.specs.Catalogue.{the_table, key_list};
+ghost use Rattle.lq_model.specs.Plan.{is_loose, lacks_parent};
 ghost use Rattle.lq_parts.specs.Steps.{tables_of};
 ghost use Rattle.lq_rows.specs.Stored.{ShowsRows};
-ghost use Rattle.lq_rowops.specs.Edits.{aims, loses, sets_target};
+ghost use Rattle.lq_rowops.specs.InsertTests.{aims, loses, sets_target};
 
 use crate::setting::meets;
 use lq_base::{Literal, Name, NoMemory};

@@ -1,13 +1,13 @@
 ghost use Rattle.std.specs.List.{list_any};
 ghost use Rattle.std.specs.Prelude.{◌≡◌, ◌+◌, IfOk, IfSome, cond, Ok, [], not, map, pos};
-ghost use Rattle.lq_base.specs.Into.{Goes};
-ghost use Rattle.lq_model.specs.Insert as spec;
-ghost use Rattle.lq_model.specs.Literals.{default_value};
-ghost use Rattle.lq_model.specs.Names as spaces;
-ghost use Rattle.lq_model.specs.Row as rows;
+ghost use Rattle.lq_base.specs.Spells.{Goes};
+ghost use Rattle.lq_model.specs.Rows as spec;
+ghost use Rattle.lq_model.specs.Kinds.{default_value};
+ghost use Rattle.lq_model.specs.Catalogue as spaces;
+ghost use Rattle.lq_model.specs.Catalogue as rows;
 ghost use Rattle.lq_base.specs.declared.dialect.Dialect.TheVariants.{Mysql};
 ghost use Rattle.lq_base.specs.declared.value.Value.TheVariants.{Int};
-ghost use Rattle.lq_rowops.specs.RowAnswers.{RowAnswers, RowMeans};
+ghost use Rattle.lq_rowops.specs.InsertTests.{RowAnswers, RowMeans};
 
 use lq_base::{
     Dialect, Duplicate, IntoFault, Items, Literal, Name, NoMemory, Reason, Value, into_kind,

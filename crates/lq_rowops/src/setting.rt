@@ -1,11 +1,11 @@
 ghost use Rattle.std.specs.List.{list_any};
 ghost use Rattle.std.specs.Prelude.{◌≡◌, IfOk, map, not};
-ghost use Rattle.lq_base.specs.Into.{Goes};
+ghost use Rattle.lq_base.specs.Spells.{Goes};
 ghost use Rattle.lq_decide.specs.Faults.{meets, names_set};
 ghost use Rattle.lq_model.specs.Kinds.{kind_in};
-ghost use Rattle.lq_model.specs.Names as spaces;
-ghost use Rattle.lq_model.specs.Update.{set_value_of};
-ghost use Rattle.lq_rowops.specs.Edits.{AreSet};
+ghost use Rattle.lq_model.specs.Catalogue as spaces;
+ghost use Rattle.lq_model.specs.Rows.{set_value_of};
+ghost use Rattle.lq_rowops.specs.InsertTests.{AreSet};
 
 use lq_base::{IntoFault, Items, Kind, Literal, Name, NoMemory, Value, into_kind};
 use lq_model::Column;

@@ -1,8 +1,8 @@
 ghost use Rattle.std.specs.List.{list_any};
 ghost use Rattle.std.specs.Prelude.{◌≡◌, IfOk};
 ghost use Rattle.lq_model.specs.Catalogue.{the_table};
-ghost use Rattle.lq_model.specs.ResultTests.{lacks_parent};
-ghost use Rattle.lq_rowops.specs.Edits.{is_some_such, strays};
+ghost use Rattle.lq_model.specs.Plan.{lacks_parent};
+ghost use Rattle.lq_rowops.specs.InsertTests.{is_some_such, strays};
 
 use crate::orphan::aims;
 use crate::row::copied;

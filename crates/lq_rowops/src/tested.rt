@@ -1,7 +1,7 @@
 ghost use Rattle.std.specs.List.{list_any};
 ghost use Rattle.std.specs.Prelude.{◌≡◌, map, not};
 ghost use Rattle.lq_model.specs.Comparison.{compares_wrongly};
-ghost use Rattle.lq_model.specs.Names.{is_in};
+ghost use Rattle.lq_model.specs.Catalogue.{is_in};
 ghost use Rattle.lq_model.specs.Truth.{names_in};
 
 use lq_model::{Column, Test};

@@ -2,9 +2,9 @@ ghost use Rattle.std.specs.List.{filter, list_any};
 ghost use Rattle.std.specs.Option.{option_copied};
 ghost use Rattle.std.specs.Prelude.{◌≡◌, ◌&&◌, IfOk, map};
 ghost use Rattle.lq_decide.specs.Faults.{are_twins};
-ghost use Rattle.lq_model.specs.ResultTests.{unique_lists};
-ghost use Rattle.lq_model.specs.TableNames.{key_list};
-ghost use Rattle.lq_rowops.specs.Edits.{set_twins};
+ghost use Rattle.lq_model.specs.Plan.{unique_lists};
+ghost use Rattle.lq_model.specs.Catalogue.{key_list};
+ghost use Rattle.lq_rowops.specs.InsertTests.{set_twins};
 
 use crate::setting::meets;
 use lq_base::{Literal, Name, NoMemory};

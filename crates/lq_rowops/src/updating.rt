@@ -1,11 +1,10 @@
 ghost use Rattle.std.specs.List.{list_any};
 ghost use Rattle.std.specs.Prelude.{◌≡◌, IfOk, false};
 ghost use Rattle.lq_model.specs.Catalogue.{the_table};
-ghost use Rattle.lq_model.specs.Plan.{decide};
-ghost use Rattle.lq_model.specs.ResultTests.{is_loose};
+ghost use Rattle.lq_model.specs.Plan.{decide, is_loose};
 ghost use Rattle.lq_model.specs.Sound.{IsSound};
-ghost use Rattle.lq_model.specs.Update as spec;
-ghost use Rattle.lq_rows.specs.Answers.{Carries};
+ghost use Rattle.lq_model.specs.Rows as spec;
+ghost use Rattle.lq_rows.specs.Stored.{Carries};
 ghost use Rattle.lq_rowops.specs.Updated.{IsStated, result_tests};
 
 use crate::changing::change;

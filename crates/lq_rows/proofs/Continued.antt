@@ -4,7 +4,7 @@ use Rattle.lq_base.specs.declared.reason.Reason.{Reason}
 use Rattle.lq_chain.specs.History.{History, changed, marked, undone_to}
 use Rattle.lq_chain.proofs.HistoryLemmas.{undone_to-changed, undone_to-marked, undone_to-undone_to}
 use Rattle.lq_model.specs.Catalogue.{Catalogue}
-use Rattle.lq_rows.specs.Answers.{Answers, Carries, Continues}
+use Rattle.lq_rows.specs.Stored.{Answers, Carries, Continues}
 use Rattle.lq_rows.specs.declared.fault.RunFault.{RunFault}
 use Rattle.lq_rows.specs.declared.fault.RunFault.TheVariants.{OutOfMemory, Refused}
 

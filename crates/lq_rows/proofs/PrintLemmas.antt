@@ -7,7 +7,7 @@ use Rattle.std.specs.List.{All, AllAdjacentBelow, Contains, remove}
 use Rattle.std.specs.Option.{option_map}
 use Rattle.lq_base.specs.declared.value.Value.{Value}
 use Rattle.lq_base.specs.declared.value.Value.TheVariants as value
-use Rattle.lq_rows.specs.Print.{ArePlaces, ArePrints, fingerprint, places_from, text_print, value_print}
+use Rattle.lq_rows.specs.Stored.{ArePlaces, ArePrints, fingerprint, places_from, text_print, value_print}
 
 module _ {A B : Type 0} (f : A → B) where
   map_removed : (xs : List A) (at : ℕ) → map f (remove xs at) ≡ remove (map f xs) at

@@ -9,14 +9,12 @@ use Rattle.std.specs.declared.cmp.Ordering.{Ordering}
 use Rattle.std.specs.declared.cmp.Ordering.TheVariants.{Equal, Greater, Less}
 use Rattle.lq_base.specs.declared.value.Value.{Value}
 use Rattle.lq_base.specs.declared.value.Value.TheVariants as value
-use Rattle.lq_model.specs.Row.{is_null, picked, same_value, same_values}
+use Rattle.lq_model.specs.Catalogue.{is_null, picked, same_value, same_values}
 use Rattle.lq_model.proofs.Lists.{and_no_right, any-append, or_left, or_right, whether}
 use Rattle.lq_base.specs.declared.name.Name.{Name}
 use Rattle.lq_model.specs.declared.column.Column.{Column}
-use Rattle.lq_rows.specs.Order.{value_cmp, values_cmp}
-use Rattle.lq_rows.specs.Seen.{AllShow, ShowWith}
-use Rattle.lq_model.specs.Twin.{is_twin_in}
-use Rattle.lq_rows.specs.Stored.{ShowsRows, has_values}
+use Rattle.lq_rows.specs.Stored.{value_cmp, values_cmp, AllShow, ShowWith, ShowsRows, has_values}
+use Rattle.lq_model.specs.Plan.{is_twin_in}
 use Rattle.lq_rows.specs.declared.held.Seen.{Seen}
 
 eq_then : (a b : Ordering) → is_eq (ordering_then a b) ≡ (is_eq a && is_eq b)

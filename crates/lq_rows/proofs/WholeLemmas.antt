@@ -3,10 +3,9 @@ use Rattle.std.proofs.Common.{Bool, List, [], ap, false, refl, not, sym, true, �
 use Rattle.std.specs.BTreeSet.{BTreeSet, contains}
 use Rattle.std.specs.List.{list_any}
 use Rattle.lq_base.specs.declared.value.Value.{Value}
-use Rattle.lq_model.specs.Row.{has_equals, is_null, same_values}
+use Rattle.lq_model.specs.Catalogue.{has_equals, is_null, same_values}
 use Rattle.lq_model.proofs.Lists.{and_no_right, any_same, whether}
-use Rattle.lq_rows.specs.Order.{values_cmp}
-use Rattle.lq_rows.specs.Whole.{is_among}
+use Rattle.lq_rows.specs.Stored.{values_cmp, is_among}
 use Rattle.lq_rows.proofs.SeenLemmas.{null_differs, same_values_back}
 
 any_or : {A : Type 0} (p q : A → Bool) (xs : List A) → list_any (λ x. p x || q x) xs ≡ (list_any p xs || list_any q xs)

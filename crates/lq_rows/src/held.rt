@@ -1,13 +1,11 @@
 ghost use Rattle.std.specs.Prelude.{◌≡◌, ◌≤◌, ◌++◌, ◌∷◌, ◌<◌, [], length, IfOk, OnOk, OnErr, slice_get, slice_set};
 ghost use Rattle.std.specs.Option.{option_copied};
 ghost use Rattle.std.specs.List.{list_any, remove};
-ghost use Rattle.lq_model.specs.Look.{has_null_in};
-ghost use Rattle.lq_model.specs.Row.{by_name, is_null};
+ghost use Rattle.lq_model.specs.Catalogue.{has_null_in, by_name, is_null};
 ghost use Rattle.lq_chain.specs.History.{changed, marked, undone_to, forgotten};
 ghost use Rattle.lq_chain.specs.Marks.{kept_rows, replaced};
-ghost use Rattle.lq_rows.specs.Print.{ArePlaces};
-ghost use Rattle.lq_rows.specs.Stored.{has_values, reshaped, rows_of, shape_of, stored, table_as, with_rows};
-ghost use Rattle.lq_model.specs.Twin.{is_twin};
+ghost use Rattle.lq_rows.specs.Stored.{ArePlaces, has_values, reshaped, rows_of, shape_of, stored, table_as, with_rows};
+ghost use Rattle.lq_model.specs.Plan.{is_twin};
 
 use crate::pick::{has_column, is_null_at};
 use crate::print;
@@ -64,9 +62,7 @@ impl Model for Held {
 
     ghost Value = { Stored };
 
-    ghost use Rattle.lq_rows.specs.Stored.{table_as};
-    ghost use Rattle.lq_rows.specs.Print.{ArePrints};
-    ghost use Rattle.lq_rows.specs.Seen.{AllShow};
+    ghost use Rattle.lq_rows.specs.Stored.{table_as, ArePrints, AllShow};
 
     ghost view = { λ t. stored (table_as t.body.value.shape t.body.value.numbered.next t.body.value.numbered.rows.now) t.body.value.numbered.rows.past };
 

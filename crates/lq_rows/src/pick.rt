@@ -2,8 +2,8 @@ ghost use Rattle.std.specs.List.{list_any};
 ghost use Rattle.std.specs.Option.{option_copied, unwrap_or};
 ghost use Rattle.std.specs.Prelude.{◌≡◌, IfOk, map};
 ghost use Rattle.lq_base.specs.declared.value.Value.TheVariants.{Null};
-ghost use Rattle.lq_model.specs.Names as spaces;
-ghost use Rattle.lq_model.specs.Row.{by_name, is_null, picked};
+ghost use Rattle.lq_model.specs.Catalogue as spaces;
+ghost use Rattle.lq_model.specs.Catalogue.{by_name, is_null, picked};
 
 use crate::held::Row;
 use lq_base::{Duplicate, Items, Name, NoMemory, Value};

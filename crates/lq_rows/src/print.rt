@@ -2,7 +2,7 @@
 ghost use Rattle.std.specs.List.{remove};
 ghost use Rattle.std.specs.Prelude.{◌≡◌, ◌++◌, ◌<◌, ◌∷◌, List, IfOk, [], length, map, slice_set};
 ghost use Rattle.lq_base.specs.declared.value.Value.{Value as Held};
-ghost use Rattle.lq_rows.specs.Print.{ArePlaces, ArePrints, fingerprint, places_from, text_print, value_print, with_digit};
+ghost use Rattle.lq_rows.specs.Stored.{ArePlaces, ArePrints, fingerprint, places_from, text_print, value_print, with_digit};
 
 use crate::held::Row;
 use lq_base::{Items, NoMemory, Value};

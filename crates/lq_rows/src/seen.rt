@@ -3,10 +3,8 @@ ghost use Rattle.std.specs.List.{list_any};
 ghost use Rattle.std.specs.Prelude.{◌≡◌, ◌||◌, ◌↔◌, List, IsTrue, IfOk, IfSome, OnOk, OnErr, ◌<◌, suc, vec_len, [], ◌∷◌, ◌++◌, false};
 ghost use Rattle.lq_base.specs.declared.value.Value.{Value as Held};
 ghost use Rattle.lq_model.specs.declared.column.Column.{Column as Shape};
-ghost use Rattle.lq_model.specs.Row.{is_null, picked, same_values};
-ghost use Rattle.lq_rows.specs.Order.{values_cmp};
-ghost use Rattle.lq_rows.specs.Seen.{AllShow, ShowWith};
-ghost use Rattle.lq_rows.specs.Stored.{ShowsRows, has_values};
+ghost use Rattle.lq_model.specs.Catalogue.{is_null, picked, same_values};
+ghost use Rattle.lq_rows.specs.Stored.{values_cmp, AllShow, ShowWith, ShowsRows, has_values};
 
 use crate::held::{Row, Seen};
 use crate::pick::{has_null, picked};

@@ -1,8 +1,8 @@
 ghost use Rattle.std.specs.List.{filter, list_any};
 ghost use Rattle.std.specs.Prelude.{◌≡◌, IfOk, map};
-ghost use Rattle.lq_model.specs.TableNames.{key_list};
-ghost use Rattle.lq_model.specs.Twin.{is_twin_in};
-ghost use Rattle.lq_rows.specs.Seen.{AllShow};
+ghost use Rattle.lq_model.specs.Catalogue.{key_list};
+ghost use Rattle.lq_model.specs.Plan.{is_twin_in};
+ghost use Rattle.lq_rows.specs.Stored.{AllShow};
 
 use crate::held::{Row, Seen};
 use crate::pick::picked;

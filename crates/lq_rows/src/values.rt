@@ -1,5 +1,5 @@
 ghost use Rattle.std.specs.Prelude.{◌≡◌};
-ghost use Rattle.lq_rows.specs.Order.{sort_rank, whole_part, scale_part, text_part, value_cmp, values_cmp};
+ghost use Rattle.lq_rows.specs.Stored.{sort_rank, whole_part, scale_part, text_part, value_cmp, values_cmp};
 
 use lq_base::{Items, Value};
 use std::cmp::Ordering;
@@ -30,10 +30,9 @@ impl Values {
 
 impl PartialEq for Values {
     ghost use Rattle.std.specs.Ordering.{eq_by_cmp};
-    ghost use Rattle.lq_rows.specs.Order.{values_cmp};
+    ghost use Rattle.lq_rows.specs.Stored.{values_cmp, values_total};
     ghost use Rattle.std.proofs.Common.{rules};
     ghost use Rattle.std.specs.Cmp.Rules.{comparing};
-    ghost use Rattle.lq_rows.specs.Order.{values_total};
 
     ghost eq = { eq_by_cmp values_cmp };
 
@@ -47,18 +46,17 @@ impl PartialEq for Values {
 impl Eq for Values {
     ghost use Rattle.std.proofs.Common.{rules};
     ghost use Rattle.std.specs.Cmp.Rules.{comparing};
-    ghost use Rattle.lq_rows.specs.Order.{values_total};
+    ghost use Rattle.lq_rows.specs.Stored.{values_total};
 
     ghost laws = { Prim.search (values_total, comparing, rules) };
 }
 
 impl PartialOrd for Values {
-    ghost use Rattle.lq_rows.specs.Order.{values_cmp};
+    ghost use Rattle.lq_rows.specs.Stored.{values_cmp, values_total};
     ghost use Rattle.std.specs.Cmp.{partial_order_from_own_ties};
     ghost use Rattle.std.specs.Ordering.{as_partial_cmp};
     ghost use Rattle.std.proofs.Common.{rules};
     ghost use Rattle.std.specs.Cmp.Rules.{comparing};
-    ghost use Rattle.lq_rows.specs.Order.{values_total};
 
     ghost partial_cmp = { as_partial_cmp values_cmp };
 
@@ -70,10 +68,9 @@ impl PartialOrd for Values {
 }
 
 impl Ord for Values {
-    ghost use Rattle.lq_rows.specs.Order.{values_cmp};
+    ghost use Rattle.lq_rows.specs.Stored.{values_cmp, values_total};
     ghost use Rattle.std.proofs.Common.{rules};
     ghost use Rattle.std.specs.Cmp.Rules.{comparing};
-    ghost use Rattle.lq_rows.specs.Order.{values_total};
 
     ghost cmp = { values_cmp };
 

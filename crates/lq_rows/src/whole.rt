@@ -2,9 +2,8 @@ ghost use Rattle.std.specs.BTreeSet.{contains};
 ghost use Rattle.std.specs.List.{list_any};
 ghost use Rattle.std.specs.Prelude.{◌≡◌, ◌||◌, IfOk, List, OnOk, map};
 ghost use Rattle.lq_base.specs.declared.value.Value.{Value as Held};
-ghost use Rattle.lq_model.specs.Row.{has_equals, picked, same_values};
-ghost use Rattle.lq_rows.specs.Order.{values_cmp};
-ghost use Rattle.lq_rows.specs.Whole.{is_among, is_apart};
+ghost use Rattle.lq_model.specs.Catalogue.{has_equals, picked, same_values};
+ghost use Rattle.lq_rows.specs.Stored.{values_cmp, is_among, is_apart};
 
 use crate::held::Row;
 use crate::pick::{has_null, picked};

@@ -10,13 +10,11 @@ use Rattle.lq_model.specs.declared.caller.Room.TheVariants.{Ordinary, Release}
 use Rattle.lq_model.specs.declared.fault.StoreFault.{StoreFault}
 use Rattle.lq_model.specs.declared.fault.StoreFault.TheVariants.{Busy, Disk, Full, NotSql, OutOfMemory, Refused}
 use Rattle.lq_store.specs.Calls.{HasRoom, MayAlone, MayEnd, done_alone, ran_alone}
-use Rattle.lq_store.specs.State.{State, Transaction, is_open, other}
-use Rattle.lq_store.specs.Work.{End, NoStatement, Outcome, Ran, Stopped, Work, goes_on, outcome, outcome_all, work_in}
-use Rattle.lq_store.specs.Work.{closed as closed_state}
+use Rattle.lq_store.specs.Journal.{State, Transaction, is_open, other}
+use Rattle.lq_store.specs.Work.{End, NoStatement, Outcome, Ran, Stopped, Work, goes_on, outcome, outcome_all, work_in, closed as closed_state}
 use Rattle.lq_track.specs.Database.{Database}
-use Rattle.lq_turns.specs.Contents.{Contents, contents_of, with_contents}
-use Rattle.lq_turns.specs.Deed.{all_done, contents_after, if_accepted, locked_after, made_of}
-use Rattle.lq_turns.specs.Held.{StandsFor, StatementsTell, all_fit, fits}
+use Rattle.lq_turns.specs.Deed.{Contents, contents_of, with_contents, all_done, contents_after, if_accepted, locked_after, made_of}
+use Rattle.lq_turns.specs.Schedule.{StandsFor, StatementsTell, all_fit, fits}
 use Rattle.lq_turns.specs.Session.{Session, accepted, all_executed, all_executed_as, executed_as, is_own, settled_if}
 use Rattle.lq_turns.specs.declared.call.Call.TheVariants.{Alone}
 use Rattle.lq_turns.specs.declared.deed.Deed.{Deed}

@@ -4,15 +4,13 @@ use Rattle.std.specs.Prelude.{Bool, List, [], false, map, pos, true, ℕ, ◌∷
 use Rattle.lq_base.specs.declared.dialect.Dialect.{Dialect}
 use Rattle.lq_base.specs.declared.dialect.Dialect.TheVariants.{Mysql, Postgresql}
 use Rattle.lq_model.specs.declared.caller.Room.TheVariants.{Ordinary}
-use Rattle.lq_store.specs.State.{State}
+use Rattle.lq_store.specs.Journal.{State}
 use Rattle.lq_track.specs.Database.{Database}
 use Rattle.lq_track.specs.Lock.{taken}
-use Rattle.lq_turns.specs.Goes.{Both}
-use Rattle.lq_turns.specs.Rest.{Inside, Place, rest}
+use Rattle.lq_turns.specs.Session.{Both, Session, all_called, all_executed, called}
+use Rattle.lq_turns.specs.Rest.{Inside, Place, rest, both_of}
 use Rattle.lq_turns.specs.Script.{opening}
-use Rattle.lq_turns.specs.Session.{Session, all_called, all_executed, called}
 use Rattle.lq_turns.specs.Set.{Meaning}
-use Rattle.lq_turns.specs.Stepped.{both_of}
 use Rattle.lq_turns.specs.declared.call.Call.{Call}
 use Rattle.lq_turns.specs.declared.call.Call.TheVariants.{Alone}
 use Rattle.lq_turns.specs.declared.deed.Deed.{Deed}

@@ -13,8 +13,7 @@ use Rattle.lq_model.specs.declared.fault.StoreFault.{StoreFault}
 use Rattle.lq_model.specs.declared.fault.StoreFault.TheVariants as fault
 use Rattle.lq_statement.specs.Laws.{StatementsReadBack}
 use Rattle.lq_store.specs.Calls.{Fails}
-use Rattle.lq_store.specs.Journal.{Entry}
-use Rattle.lq_store.specs.State.{State}
+use Rattle.lq_store.specs.Journal.{Entry, State}
 use Rattle.lq_track.specs.Database.{Database}
 use Rattle.lq_turns.specs.Script.{clear_calls, closing, opening, release_calls, tag_calls}
 use Rattle.lq_turns.specs.Session.{Session, all_called, called, session_on}
@@ -33,9 +32,8 @@ use Rattle.lq_run.proofs.Stopped.{fails}
 use Rattle.lq_run.specs.Commands.{HasDatabase, IsNew, Leaves, RunsWhole, script}
 use Rattle.lq_run.specs.Crashes.{BehindAll, BehindCleared, BehindOpened, BehindReleased, BehindTagged, LeftBehind, LeftInCommand}
 use Rattle.lq_run.specs.Ends.{BreaksBefore, EndsAs, IsBefore, StandsBefore}
-use Rattle.lq_run.specs.Holds.{IsBare}
+use Rattle.lq_run.specs.Stands.{IsBare, Stands, entries_of, entry_of}
 use Rattle.lq_run.specs.Left.{HasClosing, LeavesCleared, LeavesOnce, LeavesOpened, LeavesReleased, LeavesTagged}
-use Rattle.lq_run.specs.Stands.{Stands, entries_of, entry_of}
 use Rattle.lq_run.specs.Steps.{Standing, place}
 use Rattle.lq_run.specs.declared.runner.End.{End}
 use Rattle.lq_run.specs.declared.runner.End.TheVariants as end

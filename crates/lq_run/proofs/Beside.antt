@@ -17,21 +17,17 @@ use Rattle.lq_model.specs.declared.caller.Room.TheVariants.{Ordinary}
 use Rattle.lq_model.specs.declared.fault.StoreFault.{StoreFault}
 use Rattle.lq_model.specs.declared.fault.StoreFault.TheVariants as fault
 use Rattle.lq_run.proofs.Counting.{end_disk}
-use Rattle.lq_run.specs.Beside.{Asks, Beside, is_disk_result, open_after}
+use Rattle.lq_run.specs.Beside.{Asks, Beside, is_disk_result, open_after, is_disk_end, is_disk_move, is_disk_step}
 use Rattle.lq_run.specs.Ends.{disk_failed}
-use Rattle.lq_run.specs.Faults.{is_disk_end, is_disk_move, is_disk_step}
-use Rattle.lq_run.specs.Moves.{moved_of}
-use Rattle.lq_run.specs.Opens.{FailsFirst}
+use Rattle.lq_run.specs.Moves.{moved_of, FailsFirst}
 use Rattle.lq_run.specs.Steps.{FailsAs, FailsTo, end_of, is_disk, last_end, no_turn}
 use Rattle.lq_run.specs.declared.hand.Moved.{Moved}
 use Rattle.lq_run.specs.declared.hand.Moved.TheVariants as moved
 use Rattle.lq_run.specs.declared.runner.End.{End}
 use Rattle.lq_run.specs.declared.runner.Step.{Step}
 use Rattle.lq_store.specs.Calls.{Fails, MayAlone, MayBegin, MayCommit, MayEnd, MayExecute, aborted, done_alone, executed, finished, ran_alone}
-use Rattle.lq_store.specs.Journal.{Entry}
-use Rattle.lq_store.specs.State.{State, Transaction, is_open, other, other_in}
-use Rattle.lq_store.specs.Work.{NoStatement, Ran, Stopped, Work, closed, kept_open, still_open}
-use Rattle.lq_store.specs.Work.{End as Ending}
+use Rattle.lq_store.specs.Journal.{Entry, State, Transaction, is_open, other, other_in}
+use Rattle.lq_store.specs.Work.{NoStatement, Ran, Stopped, Work, closed, kept_open, still_open, End as Ending}
 use Rattle.lq_turns.specs.declared.call.Call.{Call}
 use Rattle.lq_turns.specs.declared.call.Call.TheVariants.{Begin, Commit, Execute}
 use Rattle.lq_turns.specs.declared.deed.Deed.{Deed}

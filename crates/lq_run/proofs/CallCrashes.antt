@@ -7,12 +7,10 @@ use Rattle.lq_model.specs.declared.caller.By.{By}
 use Rattle.lq_model.specs.declared.caller.ByText.{ByText}
 use Rattle.lq_model.specs.declared.caller.Room.{Room}
 use Rattle.lq_store.specs.Calls.{done_alone, executed, finished}
-use Rattle.lq_store.specs.Crashes.{Crashes, LeavesFront}
-use Rattle.lq_store.specs.Journal.{Entry}
-use Rattle.lq_store.specs.State.{State, Transaction, is_open}
+use Rattle.lq_store.specs.Journal.{Crashes, LeavesFront, Entry, State, Transaction, is_open}
 use Rattle.lq_store.specs.Work.{outcome, outcome_all, work_in, work_of}
 use Rattle.lq_turns.specs.Deed.{made_of}
-use Rattle.lq_turns.specs.Held.{all_fit, fits}
+use Rattle.lq_turns.specs.Schedule.{all_fit, fits}
 use Rattle.lq_turns.specs.Session.{Session}
 use Rattle.lq_turns.specs.declared.call.Call.{Call}
 use Rattle.lq_turns.specs.declared.call.Call.TheVariants.{Alone, Commit, Execute}

@@ -3,8 +3,8 @@ use Rattle.std.proofs.Common.{arith}
 use Rattle.std.specs.Prelude.{false, refl, true, ℕ, ◌≡◌, ◌≤◌}
 use Rattle.lq_model.specs.declared.fault.StoreFault.{StoreFault}
 use Rattle.lq_model.specs.declared.fault.StoreFault.TheVariants as fault
-use Rattle.lq_outside.specs.Count.{Rose}
-use Rattle.lq_run.specs.Faults.{is_disk_end}
+use Rattle.lq_outside.specs.Forms.{Rose}
+use Rattle.lq_run.specs.Beside.{is_disk_end}
 use Rattle.lq_run.specs.Steps.{end_of, is_disk}
 
 pub not_true : false ≡ true → ⊥

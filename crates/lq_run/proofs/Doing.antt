@@ -10,13 +10,10 @@ use Rattle.lq_model.specs.declared.caller.Room.TheVariants.{Ordinary}
 use Rattle.lq_model.specs.declared.fault.StoreFault.{StoreFault}
 use Rattle.lq_model.specs.declared.fault.StoreFault.TheVariants.{Busy, Disk, Full, NotSql, OutOfMemory, Refused}
 use Rattle.lq_store.specs.Calls.{HasRoom, MayBegin, MayCommit, MayEnd, MayExecute, aborted, finished}
-use Rattle.lq_store.specs.Journal.{Entry, end_of, is_full, size_of_all}
-use Rattle.lq_store.specs.State.{State, Transaction, is_open, other, other_in, with_entries}
-use Rattle.lq_store.specs.Work.{End, NoStatement, Outcome, Ran, Stopped, Work, kept_open, outcome, still_open, work_in, work_of}
-use Rattle.lq_store.specs.Work.{closed as closed_state}
-use Rattle.lq_turns.specs.Contents.{Contents, contents_of, with_contents}
-use Rattle.lq_turns.specs.Deed.{contents_after, if_accepted, locked_after, made_of}
-use Rattle.lq_turns.specs.Held.{StandsFor, StatementsTell, fits}
+use Rattle.lq_store.specs.Journal.{Entry, end_of, is_full, size_of_all, State, Transaction, is_open, other, other_in, with_entries}
+use Rattle.lq_store.specs.Work.{End, NoStatement, Outcome, Ran, Stopped, Work, kept_open, outcome, still_open, work_in, work_of, closed as closed_state}
+use Rattle.lq_turns.specs.Deed.{Contents, contents_of, with_contents, contents_after, if_accepted, locked_after, made_of}
+use Rattle.lq_turns.specs.Schedule.{StandsFor, StatementsTell, fits}
 use Rattle.lq_turns.specs.Session.{Session, called, closed, executed_as, is_own, settled_if, settled_up}
 use Rattle.lq_turns.specs.declared.call.Call.TheVariants.{Abort, Begin, Commit, Execute}
 use Rattle.lq_turns.specs.declared.deed.Deed.{Deed}

@@ -6,14 +6,12 @@ use Rattle.lq_model.specs.declared.caller.Room.{Room}
 use Rattle.lq_model.specs.declared.caller.Room.TheVariants.{Ordinary, Release}
 use Rattle.lq_model.specs.declared.fault.StoreFault.{StoreFault}
 use Rattle.lq_model.specs.declared.fault.StoreFault.TheVariants as fault
-use Rattle.lq_store.specs.State.{State, Transaction, is_open}
-use Rattle.lq_turns.specs.Contents.{Contents}
-use Rattle.lq_turns.specs.Goes.{Both, are_accepted, went}
-use Rattle.lq_turns.specs.Rest.{GivingUp, Inside, NoMore, Over, Place, Turns, between, if_goes_on, rest, turns_calls}
+use Rattle.lq_store.specs.Journal.{State, Transaction, is_open}
+use Rattle.lq_turns.specs.Deed.{Contents}
+use Rattle.lq_turns.specs.Session.{Both, are_accepted, went, Session, all_called, called, room_of}
+use Rattle.lq_turns.specs.Rest.{GivingUp, Inside, NoMore, Over, Place, Turns, between, if_goes_on, rest, turns_calls, both_of}
 use Rattle.lq_turns.specs.Script.{closing}
-use Rattle.lq_turns.specs.Session.{Session, all_called, called, room_of}
 use Rattle.lq_turns.specs.Set.{Meaning}
-use Rattle.lq_turns.specs.Stepped.{both_of}
 use Rattle.lq_turns.specs.declared.call.Call.{Call}
 use Rattle.lq_turns.specs.declared.call.Call.TheVariants.{Abort, Alone, Begin, Commit, Execute}
 use Rattle.lq_turns.specs.declared.deed.Deed.{Deed}
@@ -28,9 +26,8 @@ use Rattle.lq_run.proofs.Grows.{calls_grow, came_on}
 use Rattle.lq_run.proofs.Keeping.{call_holds}
 use Rattle.lq_run.specs.Does.{Breaks, Faults}
 use Rattle.lq_run.specs.Ends.{AllHoldOn, AreLast, BreaksBefore, CameFrom, EndsAs, GoesOnBy, HoldsOn, IsBefore, IsFullSince, IsLastCall, IsOnWay, IsRunning, IsToCome, KeepsFull, KeepsLock, Reaches, RestsAs, RestsBefore, StandsBefore, StaysFull, at_end, disk_failed}
-use Rattle.lq_run.specs.Holds.{IsBare, IsHeld, IsMarked}
+use Rattle.lq_run.specs.Stands.{IsBare, IsHeld, IsMarked, IsBegun, Stands}
 use Rattle.lq_run.specs.Moves.{Goes, IsAt, Meets}
-use Rattle.lq_run.specs.Stands.{IsBegun, Stands}
 use Rattle.lq_run.specs.Steps.{Advances, Closes, Ends, EndsStep, Falls, Standing, Steps, StepsAs, TakesBack, TellsAs, end_of, is_disk, is_over, last_end, place, turns_of}
 use Rattle.lq_run.specs.declared.runner.End.{End}
 use Rattle.lq_run.specs.declared.runner.End.TheVariants as end

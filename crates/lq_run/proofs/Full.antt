@@ -5,8 +5,7 @@ use Rattle.std.specs.Prelude.{List, Ok, [], true, ℕ, ◌+◌, ◌∷◌, ◌�
 use Rattle.lq_base.specs.declared.dialect.Dialect.{Dialect}
 use Rattle.lq_model.specs.declared.caller.Room.{Room}
 use Rattle.lq_model.specs.declared.caller.Room.TheVariants.{Ordinary}
-use Rattle.lq_store.specs.Journal.{Entry, end_of, is_full, size_of_all}
-use Rattle.lq_store.specs.State.{State}
+use Rattle.lq_store.specs.Journal.{Entry, end_of, is_full, size_of_all, State}
 use Rattle.lq_track.specs.Database.{Database}
 use Rattle.lq_turns.proofs.Journal.{calls_lead}
 use Rattle.lq_turns.specs.Deed.{all_done}

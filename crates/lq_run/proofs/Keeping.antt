@@ -4,21 +4,18 @@ use Rattle.std.proofs.lemmas.List.{append_assoc}
 use Rattle.std.specs.List.{list_any}
 use Rattle.std.specs.Prelude.{Bool, Err, List, None, Ok, Option, Some, [], codes, false, if◌then◌else◌, map, not, pos, refl, suc, true, ℕ, ◌++◌, ◌||◌, ◌∷◌, ◌≡◌}
 use Rattle.lq_base.specs.Number.{whole_text}
-use Rattle.lq_base.specs.Tracking.{identity_text}
+use Rattle.lq_base.specs.Name.{identity_text}
 use Rattle.lq_base.specs.declared.dialect.Dialect.{Dialect}
 use Rattle.lq_base.specs.declared.tracking.Lock.{Lock}
 use Rattle.lq_base.specs.declared.tracking.Tracked.{Tracked}
-use Rattle.lq_model.specs.Commits.{commits_itself}
+use Rattle.lq_model.specs.Step.{commits_itself}
 use Rattle.lq_model.specs.declared.statement.Statement.{Statement}
 use Rattle.lq_track.specs.Database.{Database}
 use Rattle.lq_track.specs.Lock.{taken}
-use Rattle.lq_turns.specs.Contents.{Contents, contents_of, with_contents}
-use Rattle.lq_turns.specs.Deed.{contents_after, done, if_accepted, locked_after}
-use Rattle.lq_turns.specs.Goes.{Both, are_accepted, went}
+use Rattle.lq_turns.specs.Deed.{Contents, contents_of, with_contents, contents_after, done, if_accepted, locked_after}
+use Rattle.lq_turns.specs.Session.{Both, are_accepted, went, Session, called, executed_as, is_own, settled_if}
 use Rattle.lq_turns.specs.Rest.{Inside, NoMore, OfRows, OfSets, Turns, between, if_goes_on, rest, turns_calls}
-use Rattle.lq_turns.specs.Rollback.{calls_if_finished, turns_made}
-use Rattle.lq_turns.specs.Script.{calls_of_turn, calls_unless, set_calls, sets_calls, turn_by}
-use Rattle.lq_turns.specs.Session.{Session, called, executed_as, is_own, settled_if}
+use Rattle.lq_turns.specs.Script.{calls_if_finished, turns_made, calls_of_turn, calls_unless, set_calls, sets_calls, turn_by}
 use Rattle.lq_turns.specs.Set.{Meaning, Set}
 use Rattle.lq_turns.specs.Settle.{choice, settle}
 use Rattle.lq_turns.specs.Turn.{Ending, Finished, Refused, apart, contents_in, ending, made, made_on, mark, mark_text, row_calls, statement_calls, turn_calls}
@@ -32,7 +29,7 @@ use Rattle.lq_turns.specs.declared.stamp.Stamp.{Stamp}
 use Rattle.lq_turns.specs.declared.stop.Stop.{Stop}
 use Rattle.lq_turns.specs.declared.turn.Turn.{Turn}
 use Rattle.lq_run.specs.Ends.{AllHoldOn, HoldsOn, IsNameOf, KeepsLock}
-use Rattle.lq_run.specs.Holds.{IsHeld}
+use Rattle.lq_run.specs.Stands.{IsHeld}
 
 -- the lock after a call
 

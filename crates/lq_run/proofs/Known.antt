@@ -7,19 +7,16 @@ use Rattle.lq_model.specs.Catalogue.{Catalogue}
 use Rattle.lq_model.specs.declared.fault.StoreFault.{StoreFault}
 use Rattle.lq_model.specs.declared.fault.StoreFault.TheVariants as fault
 use Rattle.lq_store.specs.Calls.{IsBusy}
-use Rattle.lq_store.specs.State.{State, Transaction, other, other_in, seen, seen_in}
-use Rattle.lq_turns.specs.Contents.{Contents, contents_of}
-use Rattle.lq_turns.specs.Goes.{Both, went}
-use Rattle.lq_turns.specs.Held.{StandsFor}
-use Rattle.lq_turns.specs.Rest.{GivingUp, Inside, Turns}
-use Rattle.lq_turns.specs.Session.{Session}
-use Rattle.lq_turns.specs.Stepped.{both_of}
+use Rattle.lq_store.specs.Journal.{State, Transaction, other, other_in, seen, seen_in}
+use Rattle.lq_turns.specs.Deed.{Contents, contents_of}
+use Rattle.lq_turns.specs.Session.{Both, went, Session}
+use Rattle.lq_turns.specs.Schedule.{StandsFor}
+use Rattle.lq_turns.specs.Rest.{GivingUp, Inside, Turns, both_of}
 use Rattle.lq_turns.specs.declared.call.Call.{Call}
 use Rattle.lq_turns.specs.declared.call.Call.TheVariants.{Abort, Alone, Begin, Commit, Execute}
 use Rattle.lq_turns.specs.declared.deed.Deed.TheVariants.{Locks, Rows, Users}
 use Rattle.lq_turns.specs.declared.stop.Refusal.{Refusal}
-use Rattle.lq_hand.specs.Counts.{first_coming, refusal_at, with_accepted, with_refused}
-use Rattle.lq_hand.specs.Way.{Expects, GivesUp, Looks, Way, sights}
+use Rattle.lq_hand.specs.Way.{first_coming, refusal_at, with_accepted, with_refused, Expects, GivesUp, Looks, Way, sights}
 use Rattle.lq_hand.specs.declared.progress.Coming.{Coming}
 use Rattle.lq_hand.specs.declared.progress.Coming.TheVariants as coming
 use Rattle.lq_hand.specs.declared.progress.Progress.{Progress}

@@ -12,13 +12,11 @@ use Rattle.lq_model.specs.declared.caller.Room.TheVariants.{Ordinary, Release}
 use Rattle.lq_model.specs.declared.fault.StoreFault.{StoreFault}
 use Rattle.lq_model.specs.declared.fault.StoreFault.TheVariants as fault
 use Rattle.lq_store.specs.Calls.{Fails}
-use Rattle.lq_store.specs.Journal.{Entry, size_of_all}
-use Rattle.lq_store.specs.State.{State, Transaction}
+use Rattle.lq_store.specs.Journal.{Entry, size_of_all, State, Transaction}
 use Rattle.lq_track.specs.Database.{Database}
 use Rattle.lq_turns.proofs.Journal.{Leads, calls_lead}
-use Rattle.lq_turns.specs.Contents.{contents_of, with_contents}
-use Rattle.lq_turns.specs.Deed.{all_done, done, lock_after}
-use Rattle.lq_turns.specs.Held.{StandsFor, all_fit}
+use Rattle.lq_turns.specs.Deed.{contents_of, with_contents, all_done, done, lock_after}
+use Rattle.lq_turns.specs.Schedule.{StandsFor, all_fit}
 use Rattle.lq_turns.specs.Script.{clear_calls, clearing, closing, opening, release_calls, tag_calls, tag_of}
 use Rattle.lq_turns.specs.Session.{Session, accepted, all_called, all_executed, all_executed_as, called, session_on}
 use Rattle.lq_turns.specs.Stops.{IsLeft}
@@ -38,7 +36,7 @@ use Rattle.lq_run.specs.Commands.{HasDatabase, Leaves}
 use Rattle.lq_run.specs.Does.{AloneFor, Breaks, DoesAlone, HasNoRoom}
 use Rattle.lq_run.specs.Ends.{CameFrom}
 use Rattle.lq_run.specs.Left.{ClosesHeld, IsAtMostFreed, IsFullIn, LeavesCleared, LeavesLock, LeavesOnce, LeavesOpened, LeavesReleased, LeavesTagged, RestsIn, StopsIn}
-use Rattle.lq_run.specs.Opens.{TakesLock}
+use Rattle.lq_run.specs.Moves.{TakesLock}
 use Rattle.lq_run.specs.Stands.{HadRoom, IsBegun, Stands, entries_of}
 
 not_true : false ≡ true → ⊥

@@ -6,11 +6,10 @@ use Rattle.lq_base.specs.declared.dialect.Dialect.{Dialect}
 use Rattle.lq_base.specs.declared.tracking.Lock.{Lock}
 use Rattle.lq_base.specs.declared.tracking.Tracked.{Tracked}
 use Rattle.lq_model.specs.Catalogue.{Catalogue}
-use Rattle.lq_store.specs.Crashes.{Crashes}
-use Rattle.lq_store.specs.State.{State}
+use Rattle.lq_store.specs.Journal.{Crashes, State}
 use Rattle.lq_track.specs.Database.{Database, lock_of, rows_of}
 use Rattle.lq_model.specs.declared.fault.StoreFault.{StoreFault}
-use Rattle.lq_turns.specs.Held.{StandsFor}
+use Rattle.lq_turns.specs.Schedule.{StandsFor}
 use Rattle.lq_turns.specs.Rest.{Place}
 use Rattle.lq_turns.specs.Script.{closing}
 use Rattle.lq_turns.specs.Session.{Session}
@@ -19,7 +18,7 @@ use Rattle.lq_turns.specs.declared.stamp.Stamp.{Stamp}
 use Rattle.lq_turns.specs.declared.stop.Refusal.{Refusal}
 use Rattle.lq_run.proofs.Since.{leave_wider}
 use Rattle.lq_run.specs.Crashing.{CrashesClosing, CrashesFor, LeftInCall, LeftInClosing}
-use Rattle.lq_run.specs.Holds.{Holds, HoldsAs, IsBare}
+use Rattle.lq_run.specs.Stands.{Holds, HoldsAs, IsBare}
 use Rattle.lq_run.specs.Moves.{IsAt}
 use Rattle.lq_run.specs.Steps.{Closes, ClosesFor, EndsFor, IsBetween, Standing, Steps, end_of, last_end, place}
 use Rattle.lq_run.specs.declared.holding.Holding.TheVariants as holding

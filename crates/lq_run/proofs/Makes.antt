@@ -5,8 +5,8 @@ use Rattle.lq_base.specs.declared.dialect.Dialect.{Dialect}
 use Rattle.lq_base.specs.declared.reason.Reason.{Reason}
 use Rattle.lq_model.specs.declared.fault.StoreFault.{StoreFault}
 use Rattle.lq_model.specs.declared.fault.StoreFault.TheVariants.{Busy, Disk, Full, NotSql, OutOfMemory, Refused}
-use Rattle.lq_store.specs.State.{State, Transaction, is_open}
-use Rattle.lq_turns.specs.Held.{fits}
+use Rattle.lq_store.specs.Journal.{State, Transaction, is_open}
+use Rattle.lq_turns.specs.Schedule.{fits}
 use Rattle.lq_turns.specs.Session.{Session, called}
 use Rattle.lq_turns.specs.Set.{Meaning}
 use Rattle.lq_turns.specs.declared.call.Call.{Call}

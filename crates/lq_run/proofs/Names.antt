@@ -4,7 +4,7 @@ use Rattle.std.specs.Str.Pattern.{FindsTextPrefix, StripsPrefix}
 use Rattle.std.specs.Prelude.{Bool, List, MatchOption, None, Option, Some, [], false, pos, refl, true, ℕ, ℤ, ◌++◌, ◌∷◌, ◌≡◌, ◌≢◌, ◌⊎◌}
 use Rattle.lq_base.specs.declared.tracking.Lock.{Lock}
 use Rattle.lq_turns.specs.declared.stamp.Stamp.{Stamp}
-use Rattle.lq_run.specs.Holds.{Holds, IsHeld, Names, StandsBehind}
+use Rattle.lq_run.specs.Stands.{Holds, IsHeld, Names, StandsBehind}
 use Rattle.lq_run.specs.declared.holding.Holding.{Holding}
 use Rattle.lq_run.specs.declared.holding.Holding.TheVariants as holding
 

@@ -9,12 +9,11 @@ use Rattle.lq_model.specs.Catalogue.{Catalogue, table_of}
 use Rattle.lq_model.specs.declared.caller.Room.TheVariants.{Ordinary}
 use Rattle.lq_model.specs.declared.fault.StoreFault.{StoreFault}
 use Rattle.lq_model.specs.declared.fault.StoreFault.TheVariants as fault
-use Rattle.lq_store.specs.Crashes.{Crashes}
-use Rattle.lq_store.specs.State.{State, is_open, seen}
+use Rattle.lq_store.specs.Journal.{Crashes, State, is_open, seen}
 use Rattle.lq_track.specs.Database.{Database, has_rows, lock_of, rows_of, users_of}
 use Rattle.lq_track.specs.Lock.{lock_table}
 use Rattle.lq_track.specs.Log.{log_table}
-use Rattle.lq_turns.specs.Held.{StandsFor, all_fit}
+use Rattle.lq_turns.specs.Schedule.{StandsFor, all_fit}
 use Rattle.lq_turns.specs.Script.{if_missing, opening}
 use Rattle.lq_turns.specs.Session.{Session}
 use Rattle.lq_turns.specs.declared.call.Call.TheVariants.{Alone}
@@ -23,15 +22,14 @@ use Rattle.lq_turns.specs.declared.deed.Deed.TheVariants.{Locks}
 use Rattle.lq_turns.specs.declared.deed.OnLock.{OnLock}
 use Rattle.lq_turns.specs.declared.deed.OnLock.TheVariants.{LockMade, LockRowMade, LogMade, Taken}
 use Rattle.lq_turns.specs.declared.stamp.Stamp.{Stamp}
-use Rattle.lq_hand.specs.Writable.{IsWritable}
+use Rattle.lq_hand.specs.Hand.{IsWritable}
 use Rattle.lq_run.proofs.Doing.{no_other}
 use Rattle.lq_run.proofs.Stepping.{is_shut, seen_stands}
 use Rattle.lq_run.specs.Crashes.{CrashesLeave}
 use Rattle.lq_run.specs.Crashing.{CrashesFor, CrashesOpening, LeftInCall}
 use Rattle.lq_run.specs.Does.{AllWritable, AloneFor, DoesAlone}
-use Rattle.lq_run.specs.NoChanges.{no_changes}
-use Rattle.lq_run.specs.Stands.{Stands}
-use Rattle.lq_run.specs.Opens.{FailsFirst, OpensOn, TakesLock, opening_by}
+use Rattle.lq_run.specs.Stands.{no_changes, Stands}
+use Rattle.lq_run.specs.Moves.{FailsFirst, OpensOn, TakesLock, opening_by}
 use Rattle.lq_run.specs.declared.alone.Tables.{Tables}
 
 same_some : {a b : Database} → (let o : Option Database = Some a in o) ≡ Some b → a ≡ b

@@ -15,17 +15,15 @@ use Rattle.lq_model.proofs.ProgramMay.{by_program}
 use Rattle.lq_model.specs.Catalogue.{Catalogue, no_objects}
 use Rattle.lq_model.specs.Script.{if_any}
 use Rattle.lq_model.specs.SqlText.{statement_in}
-use Rattle.lq_model.specs.Statement.{is_statement}
-use Rattle.lq_model.specs.Step.{step}
+use Rattle.lq_model.specs.Step.{is_statement, step}
 use Rattle.lq_model.specs.declared.caller.By.TheVariants.{Program}
 use Rattle.lq_statement.specs.Laws.{StatementsReadBack}
 use Rattle.lq_store.specs.Journal.{Entry, accepted as accepted_by, database as run_to, run_entries, run_entry, run_text, run_texts}
 use Rattle.lq_track.specs.Database.{Database}
 use Rattle.lq_turns.proofs.Growing.{fronts_are_left}
 use Rattle.lq_turns.proofs.Journal.{calls_lead, done_both, joined_both, next, same_ok}
-use Rattle.lq_turns.specs.Contents.{contents_of, with_contents}
-use Rattle.lq_turns.specs.Deed.{all_done, done, has_place, if_accepted, lock_after, made_of}
-use Rattle.lq_turns.specs.Held.{Agrees, StandsFor, all_fit, fits}
+use Rattle.lq_turns.specs.Deed.{contents_of, with_contents, all_done, done, has_place, if_accepted, lock_after, made_of}
+use Rattle.lq_turns.specs.Schedule.{Agrees, StandsFor, all_fit, fits}
 use Rattle.lq_turns.specs.Script.{closing, release_calls}
 use Rattle.lq_turns.specs.Session.{Session, aborted, accepted, all_called, all_executed, all_executed_as, before, called, closed, executed, executed_as, is_own, session_on, settled_if, settled_up}
 use Rattle.lq_turns.specs.Stops.{IsLeft, Journal, has_mark, joined}

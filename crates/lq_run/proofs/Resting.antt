@@ -10,7 +10,7 @@ use Rattle.lq_track.specs.Lock.{free}
 use Rattle.lq_turns.specs.Script.{closing}
 use Rattle.lq_turns.specs.Session.{Session, called}
 use Rattle.lq_turns.specs.declared.stamp.Stamp.{Stamp}
-use Rattle.lq_run.specs.Holds.{IsMarked}
+use Rattle.lq_run.specs.Stands.{IsMarked}
 
 or_true : (b : Bool) → (b || true) ≡ true
 or_true true = refl

@@ -5,9 +5,7 @@ use Rattle.std.specs.Option.{option_map}
 use Rattle.std.specs.Prelude.{List, None, Option, Some, [], false, true, ℕ, ◌++◌, ◌∷◌, ◌≡◌}
 use Rattle.lq_base.specs.declared.dialect.Dialect.{Dialect}
 use Rattle.lq_model.specs.declared.fault.StoreFault.{StoreFault}
-use Rattle.lq_store.specs.Crashes.{Crashes, CrashesLeave}
-use Rattle.lq_store.specs.Journal.{Entry}
-use Rattle.lq_store.specs.State.{State, Transaction}
+use Rattle.lq_store.specs.Journal.{Crashes, CrashesLeave, Entry, State, Transaction}
 use Rattle.lq_turns.specs.Script.{closing}
 use Rattle.lq_turns.specs.Session.{Session, all_called, called}
 use Rattle.lq_turns.specs.Set.{Meaning}
@@ -21,8 +19,7 @@ use Rattle.lq_run.proofs.Grows.{calls_grow, closing_entry}
 use Rattle.lq_run.proofs.Since.{leave_from}
 use Rattle.lq_run.specs.Crashing.{CrashesStep, LeftInCall, LeftInRun, LeftInStep, MayFree}
 use Rattle.lq_run.specs.Ends.{IsBefore, Reaches}
-use Rattle.lq_run.specs.Holds.{IsBare}
-use Rattle.lq_run.specs.Stands.{IsBegun, entries_of, entry_of}
+use Rattle.lq_run.specs.Stands.{IsBare, IsBegun, entries_of, entry_of}
 use Rattle.lq_run.specs.Steps.{Standing}
 
 not_true : false ≡ true → ⊥

@@ -5,8 +5,8 @@ use Rattle.std.specs.Prelude.{Bool, List, [], map, false, true, ℕ, ◌++◌, �
 use Rattle.lq_base.specs.declared.dialect.Dialect.{Dialect}
 use Rattle.lq_base.specs.declared.tracking.Tracked.{Tracked}
 use Rattle.lq_track.specs.Database.{Database}
-use Rattle.lq_turns.specs.Contents.{Contents, contents_of}
-use Rattle.lq_turns.specs.Goes.{are_accepted, went}
+use Rattle.lq_turns.specs.Deed.{Contents, contents_of}
+use Rattle.lq_turns.specs.Session.{are_accepted, went}
 use Rattle.lq_turns.specs.Rest.{Inside, NoMore, Turns, between, if_goes_on, turns_calls}
 use Rattle.lq_turns.specs.Script.{with_lock}
 use Rattle.lq_turns.specs.Set.{Meaning}

@@ -4,9 +4,7 @@ use Rattle.std.proofs.lemmas.List.{append-nil}
 use Rattle.std.specs.Option.{option_map}
 use Rattle.std.specs.Prelude.{List, None, Option, Some, [], map, ℕ, ◌++◌, ◌∷◌, ◌≡◌, ◌≤◌}
 use Rattle.lq_base.specs.declared.dialect.Dialect.{Dialect}
-use Rattle.lq_store.specs.Crashes.{Crashes, CrashesLeave, Keeps, Leaves, LeavesFront, Since}
-use Rattle.lq_store.specs.Journal.{Entry, IsFrontOf}
-use Rattle.lq_store.specs.State.{State}
+use Rattle.lq_store.specs.Journal.{Crashes, CrashesLeave, Keeps, Leaves, LeavesFront, Since, Entry, IsFrontOf, State}
 use Rattle.lq_turns.specs.Session.{Session}
 use Rattle.lq_turns.specs.declared.call.Call.{Call}
 use Rattle.lq_run.proofs.Grows.{calls_grow}

@@ -8,11 +8,10 @@ use Rattle.lq_base.specs.declared.literal.Literal.TheVariants as literal
 use Rattle.lq_base.specs.declared.identity.Identity.{Identity}
 use Rattle.lq_base.specs.declared.tracking.Tracked.{Tracked}
 use Rattle.lq_model.proofs.Lists.{and_true}
-use Rattle.lq_model.specs.Spelled.{is_literal}
-use Rattle.lq_model.specs.Statement.{is_statement}
+use Rattle.lq_model.specs.Comparison.{is_literal}
+use Rattle.lq_model.specs.Step.{is_statement}
 use Rattle.lq_model.specs.declared.statement.Statement.{Statement}
-use Rattle.lq_track.specs.Columns.{text_or_null}
-use Rattle.lq_track.specs.Lock.{lock_column, lock_key_name, lock_order, lock_table, lock_value}
+use Rattle.lq_track.specs.Lock.{text_or_null, lock_column, lock_key_name, lock_order, lock_table, lock_value}
 use Rattle.lq_track.specs.Log.{again_order, log_column, log_order, log_table, log_value}
 use Rattle.lq_track.specs.Statements.{lock_freed, lock_made, lock_marked, lock_row_made, lock_taken, log_made, row_again, row_deleted, row_inserted, sum_filled, sums_cleared, tag_set}
 

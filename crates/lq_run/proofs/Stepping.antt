@@ -8,18 +8,14 @@ use Rattle.lq_model.specs.declared.caller.Room.{Room}
 use Rattle.lq_model.specs.declared.caller.Room.TheVariants.{Ordinary, Release}
 use Rattle.lq_model.specs.declared.fault.StoreFault.{StoreFault}
 use Rattle.lq_model.specs.declared.fault.StoreFault.TheVariants as fault
-use Rattle.lq_store.specs.Crashes.{Crashes, CrashesLeave}
-use Rattle.lq_store.specs.State.{State, Transaction, is_open, seen, seen_in}
+use Rattle.lq_store.specs.Journal.{Crashes, CrashesLeave, State, Transaction, is_open, seen, seen_in}
 use Rattle.lq_track.specs.Database.{Database}
-use Rattle.lq_turns.specs.Contents.{contents_of, with_contents}
-use Rattle.lq_turns.specs.Deed.{lock_after}
-use Rattle.lq_turns.specs.Goes.{Both}
-use Rattle.lq_turns.specs.Held.{StandsFor, all_fit}
-use Rattle.lq_turns.specs.Rest.{GivingUp, Inside, NoMore, Over, Place, Turns, between, if_goes_on, rest}
+use Rattle.lq_turns.specs.Deed.{contents_of, with_contents, lock_after}
+use Rattle.lq_turns.specs.Session.{Both, Session, called, closed, is_own, settled_if}
+use Rattle.lq_turns.specs.Schedule.{StandsFor, all_fit}
+use Rattle.lq_turns.specs.Rest.{GivingUp, Inside, NoMore, Over, Place, Turns, between, if_goes_on, rest, both_of}
 use Rattle.lq_turns.specs.Script.{closing}
-use Rattle.lq_turns.specs.Session.{Session, called, closed, is_own, settled_if}
 use Rattle.lq_turns.specs.Set.{Meaning}
-use Rattle.lq_turns.specs.Stepped.{both_of}
 use Rattle.lq_turns.specs.declared.call.Call.{Call}
 use Rattle.lq_turns.specs.declared.call.Call.TheVariants.{Abort}
 use Rattle.lq_turns.specs.declared.deed.Deed.TheVariants.{Locks}
@@ -27,23 +23,20 @@ use Rattle.lq_turns.specs.declared.deed.OnLock.TheVariants.{Freed}
 use Rattle.lq_turns.specs.declared.stamp.Stamp.{Stamp}
 use Rattle.lq_turns.specs.declared.stop.Refusal.{Refusal}
 use Rattle.lq_beside.specs.Replays.{calls_fit}
-use Rattle.lq_hand.specs.Enters.{Enters, rest_at}
+use Rattle.lq_hand.specs.Way.{Enters, rest_at, Expects, GivesUp, Way, coming_of, first_coming, no_progress, progress_after, refusal_at, refusal_by, with_accepted, with_refused}
 use Rattle.lq_hand.specs.Hand.{AreTurns, IsReady, calls_left, hand_place, place_of}
-use Rattle.lq_hand.specs.Way.{Expects, GivesUp, Way}
 use Rattle.lq_hand.specs.declared.hand.Hand.{Hand}
 use Rattle.lq_hand.specs.declared.hand.Phase.{Phase}
 use Rattle.lq_hand.specs.declared.hand.Phase.TheVariants as phase
 use Rattle.lq_hand.specs.declared.source.Entered.TheVariants as entered
 use Rattle.lq_run.proofs.Doing.{differ}
 use Rattle.lq_run.proofs.Known.{expects_on, known_back, known_left, known_on, known_refused, known_shown, shows_own, tells_fault, unstopped, yields_refused}
-use Rattle.lq_hand.specs.Counts.{coming_of, first_coming, no_progress, progress_after, refusal_at, refusal_by, with_accepted, with_refused}
 use Rattle.lq_run.proofs.Since.{leave_then, leave_wider, none_yet}
 use Rattle.lq_run.proofs.Takes.{still_next}
 use Rattle.lq_run.specs.Crashing.{CrashesClosing, CrashesNext, CrashesStep, CrashesTaken, LeftAlone, LeftInClosing, LeftInNext, LeftInStep, MayFree}
-use Rattle.lq_run.specs.Holds.{IsBare}
+use Rattle.lq_run.specs.Stands.{IsBare, IsBegun, Stands}
 use Rattle.lq_run.specs.Does.{AbortFor, AloneFor, DoesAlone, Faults}
 use Rattle.lq_run.specs.Moves.{Goes, IsAt, Meets, Refuses, Takes, refusal_of}
-use Rattle.lq_run.specs.Stands.{IsBegun, Stands}
 use Rattle.lq_run.specs.Steps.{Closes, Ends, EndsFor, EndsStep, FailsAs, FailsTo, IsBetween, IsShowing, IsShown, IsThere, Known, KnownIn, Shows, Standing, Steps, StepsAs, StepsShown, TellsAs, end_of, enters_turns, is_disk, last_end, no_turn, place, progress_at, progress_in, stopped_by, turns_of}
 use Rattle.lq_run.specs.declared.hand.Moved.TheVariants as moved
 use Rattle.lq_hand.specs.declared.progress.Coming.{Coming}

@@ -9,8 +9,7 @@ use Rattle.lq_drill.specs.Faults.{freed}
 use Rattle.lq_model.specs.declared.caller.Room.TheVariants.{Ordinary, Release}
 use Rattle.lq_model.specs.declared.fault.StoreFault.{StoreFault}
 use Rattle.lq_store.specs.Calls.{Fails}
-use Rattle.lq_store.specs.Journal.{Entry}
-use Rattle.lq_store.specs.State.{State}
+use Rattle.lq_store.specs.Journal.{Entry, State}
 use Rattle.lq_track.specs.Database.{Database}
 use Rattle.lq_turns.proofs.Made.{calls_both}
 use Rattle.lq_turns.specs.Script.{closing}
@@ -27,9 +26,8 @@ use Rattle.lq_run.proofs.Left.{leads, rests_at, stands_left, stands_there}
 use Rattle.lq_run.proofs.Resting.{closing_frees, closing_shuts, marked_some}
 use Rattle.lq_run.specs.Commands.{HasDatabase, IsNew, RunsWhole, script}
 use Rattle.lq_run.specs.Ends.{BreaksBefore, CameFrom, EndsAs, IsAtLock, IsBefore, IsFullBefore, IsFullSince, IsToCome, RestsAs, RestsBefore, StandsBefore, StaysFull}
-use Rattle.lq_run.specs.Holds.{IsBare, IsMarked}
+use Rattle.lq_run.specs.Stands.{IsBare, IsMarked, Stands, entries_of, entry_of}
 use Rattle.lq_run.specs.Left.{BreaksIn, ClosesHeld, HasClosing, IsAtMostFreed, IsFullIn, LeavesLock, LeftAll, LeftAs, RestsIn, StopsIn}
-use Rattle.lq_run.specs.Stands.{Stands, entries_of, entry_of}
 use Rattle.lq_run.specs.Steps.{Standing, place}
 use Rattle.lq_run.specs.declared.runner.End.{End}
 use Rattle.lq_run.specs.declared.runner.End.TheVariants as end

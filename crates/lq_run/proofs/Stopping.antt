@@ -9,11 +9,9 @@ use Rattle.lq_model.proofs.Lists.{and_left, and_true}
 use Rattle.lq_model.specs.declared.caller.Room.{Room}
 use Rattle.lq_model.specs.declared.caller.Room.TheVariants.{Ordinary, Release}
 use Rattle.lq_statement.specs.Laws.{StatementsReadBack}
-use Rattle.lq_store.specs.Crashes.{Crashes}
-use Rattle.lq_store.specs.Journal.{Entry}
-use Rattle.lq_store.specs.State.{State}
+use Rattle.lq_store.specs.Journal.{Crashes, Entry, State}
 use Rattle.lq_track.specs.Database.{Database}
-use Rattle.lq_turns.specs.Held.{all_fit}
+use Rattle.lq_turns.specs.Schedule.{all_fit}
 use Rattle.lq_turns.specs.Rest.{rest}
 use Rattle.lq_turns.specs.Script.{clear_calls, clearing, closing, opening, release_calls, tag_calls, tag_of}
 use Rattle.lq_turns.specs.Session.{Session, all_called, called, session_on}
@@ -38,9 +36,8 @@ use Rattle.lq_run.specs.Commands.{HasDatabase, IsNew, MayRun, both_on, script}
 use Rattle.lq_run.specs.Crashes.{CrashesAll, CrashesCleared, CrashesLeave, CrashesOpened, CrashesReleased, CrashesTagged, LeftInCommand}
 use Rattle.lq_run.specs.Crashing.{CrashesFor, CrashesOn, CrashesOpening, LeftInCall, LeftInRun}
 use Rattle.lq_run.specs.Ends.{CameFrom, IsBefore, at_end}
-use Rattle.lq_run.specs.Holds.{IsBare}
-use Rattle.lq_run.specs.Opens.{TakesLock}
-use Rattle.lq_run.specs.Stands.{entries_of}
+use Rattle.lq_run.specs.Stands.{IsBare, entries_of}
+use Rattle.lq_run.specs.Moves.{TakesLock}
 use Rattle.lq_run.specs.Steps.{Standing, place}
 
 -- the first of a command's calls

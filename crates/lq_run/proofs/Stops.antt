@@ -4,7 +4,7 @@ use Rattle.lq_model.specs.declared.fault.StoreFault.{StoreFault}
 use Rattle.lq_model.specs.declared.fault.StoreFault.TheVariants as fault
 use Rattle.lq_turns.specs.declared.stop.Refusal.{Refusal}
 use Rattle.lq_run.proofs.Counting.{not_true}
-use Rattle.lq_run.specs.Faults.{StopsAs}
+use Rattle.lq_run.specs.Beside.{StopsAs}
 use Rattle.lq_run.specs.Steps.{end_of, last_end}
 use Rattle.lq_run.specs.declared.runner.Step.TheVariants as step
 

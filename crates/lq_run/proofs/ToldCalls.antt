@@ -9,9 +9,9 @@ use Rattle.lq_model.specs.declared.caller.ByText.{ByText}
 use Rattle.lq_model.specs.declared.caller.Room.{Room}
 use Rattle.lq_model.specs.declared.fault.StoreFault.{StoreFault}
 use Rattle.lq_store.specs.Calls.{MayAlone, MayBegin, MayCommit, MayExecute, aborted}
-use Rattle.lq_store.specs.State.{State, is_open}
+use Rattle.lq_store.specs.Journal.{State, is_open}
 use Rattle.lq_turns.specs.Deed.{made_of}
-use Rattle.lq_turns.specs.Held.{all_fit, fits}
+use Rattle.lq_turns.specs.Schedule.{all_fit, fits}
 use Rattle.lq_turns.specs.Session.{called}
 use Rattle.lq_turns.specs.declared.call.Call.TheVariants.{Abort, Begin}
 use Rattle.lq_turns.specs.declared.deed.Deed.{Deed}

@@ -5,23 +5,18 @@ use Rattle.lq_base.specs.declared.dialect.Dialect.{Dialect}
 use Rattle.lq_base.specs.declared.reason.Reason.{Reason}
 use Rattle.lq_model.specs.Catalogue.{Catalogue}
 use Rattle.lq_model.specs.declared.fault.StoreFault.{StoreFault}
-use Rattle.lq_store.specs.State.{State, is_open, seen}
-use Rattle.lq_turns.specs.Contents.{Contents, contents_of}
-use Rattle.lq_turns.specs.Deed.{contents_after}
-use Rattle.lq_turns.specs.Goes.{Both, accepted_by, are_accepted, went}
-use Rattle.lq_turns.specs.Rest.{Inside, Turns}
-use Rattle.lq_turns.specs.Session.{Session}
+use Rattle.lq_store.specs.Journal.{State, is_open, seen}
+use Rattle.lq_turns.specs.Deed.{Contents, contents_of, contents_after}
+use Rattle.lq_turns.specs.Session.{Both, accepted_by, are_accepted, went, Session}
+use Rattle.lq_turns.specs.Rest.{Inside, Turns, both_of}
 use Rattle.lq_turns.specs.Set.{Meaning}
-use Rattle.lq_turns.specs.Stepped.{both_of}
 use Rattle.lq_turns.specs.declared.call.Call.{Call}
 use Rattle.lq_turns.specs.declared.call.Call.TheVariants.{Abort, Alone, Begin, Commit, Execute}
 use Rattle.lq_turns.specs.declared.deed.Deed.{Deed}
 use Rattle.lq_turns.specs.declared.stamp.Stamp.{Stamp}
 use Rattle.lq_turns.specs.declared.stop.Refusal.{Refusal}
-use Rattle.lq_hand.specs.Counts.{coming_of, first_coming, no_progress, with_accepted}
-use Rattle.lq_hand.specs.Enters.{Enters}
+use Rattle.lq_hand.specs.Way.{coming_of, first_coming, no_progress, with_accepted, Enters, Expects, IsUnderWay, Way, refused_by, refused_in, sights}
 use Rattle.lq_hand.specs.Hand.{calls_left}
-use Rattle.lq_hand.specs.Way.{Expects, IsUnderWay, Way, refused_by, refused_in, sights}
 use Rattle.lq_hand.specs.declared.hand.Hand.{Hand}
 use Rattle.lq_hand.specs.declared.hand.Phase.TheVariants as phase
 use Rattle.lq_hand.specs.declared.progress.Coming.{Coming}
@@ -29,10 +24,9 @@ use Rattle.lq_hand.specs.declared.progress.Progress.{Progress}
 use Rattle.lq_hand.specs.declared.source.Entered.TheVariants as entered
 use Rattle.lq_run.proofs.Stepping.{contents_known, entered_by, entered_there, knows_them, seen_by, seen_stands, shown_there}
 use Rattle.lq_run.proofs.Losing.{at_place}
-use Rattle.lq_run.specs.Holds.{Holds, IsHeld}
+use Rattle.lq_run.specs.Stands.{Holds, IsHeld}
 use Rattle.lq_run.specs.Moves.{unseen}
-use Rattle.lq_run.specs.Steps.{EndsFor, FailsAs, FailsTo, IsBetween, IsShowing, IsShown, IsThere, Known, KnownIn, KnownNext, Shows, Standing, end_of, enters_turns, is_disk, place, turns_of}
-use Rattle.lq_run.specs.UnderWay.{AfterFault, IfFull, IsAfterFault, Stays, StaysAs, StaysShown}
+use Rattle.lq_run.specs.Steps.{EndsFor, FailsAs, FailsTo, IsBetween, IsShowing, IsShown, IsThere, Known, KnownIn, KnownNext, Shows, Standing, end_of, enters_turns, is_disk, place, turns_of, AfterFault, IfFull, IsAfterFault, Stays, StaysAs, StaysShown}
 use Rattle.lq_run.specs.declared.holding.Holding.TheVariants as holding
 use Rattle.lq_track.specs.Database.{lock_of}
 use Rattle.lq_run.specs.declared.runner.End.{End}

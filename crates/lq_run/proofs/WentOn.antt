@@ -5,19 +5,15 @@ use Rattle.lq_base.specs.declared.dialect.Dialect.{Dialect}
 use Rattle.lq_base.specs.declared.reason.Reason.{Reason}
 use Rattle.lq_turns.proofs.Made.{At, after_ok}
 use Rattle.lq_turns.proofs.Steps.{goes, stops}
-use Rattle.lq_turns.specs.Contents.{Contents, contents_of, with_contents}
-use Rattle.lq_turns.specs.Deed.{contents_after, if_accepted, locked_after}
-use Rattle.lq_turns.specs.Goes.{Both, accepted_by, are_accepted, committed_if, went, went_by}
-use Rattle.lq_turns.specs.Rest.{GivingUp, Inside, Turns, if_goes_on, rest}
-use Rattle.lq_turns.specs.Session.{Session, accepted, called, executed_as, is_own, settled_if}
+use Rattle.lq_turns.specs.Deed.{Contents, contents_of, with_contents, contents_after, if_accepted, locked_after}
+use Rattle.lq_turns.specs.Session.{Both, accepted_by, are_accepted, committed_if, went, went_by, Session, accepted, called, executed_as, is_own, settled_if}
+use Rattle.lq_turns.specs.Rest.{GivingUp, Inside, Turns, if_goes_on, rest, Went, both_of}
 use Rattle.lq_turns.specs.Set.{Meaning}
-use Rattle.lq_turns.specs.Stepped.{Went, both_of}
 use Rattle.lq_turns.specs.declared.call.Call.{Call}
 use Rattle.lq_turns.specs.declared.call.Call.TheVariants.{Execute}
 use Rattle.lq_turns.specs.declared.deed.Deed.{Deed}
 use Rattle.lq_turns.specs.declared.stamp.Stamp.{Stamp}
-use Rattle.lq_hand.specs.Counts.{coming_of, with_accepted}
-use Rattle.lq_hand.specs.Way.{refused_by, refused_in, seen_after, sights}
+use Rattle.lq_hand.specs.Way.{coming_of, with_accepted, refused_by, refused_in, seen_after, sights}
 use Rattle.lq_run.specs.Moves.{BreaksOff, Continues}
 
 module _ (d : Dialect) (deed : Deed) (s : Session) where

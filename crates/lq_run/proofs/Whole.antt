@@ -6,13 +6,12 @@ use Rattle.lq_model.proofs.Lists.{and_right}
 use Rattle.lq_model.specs.declared.caller.Room.TheVariants.{Ordinary}
 use Rattle.lq_model.specs.declared.fault.StoreFault.{StoreFault}
 use Rattle.lq_model.specs.declared.fault.StoreFault.TheVariants as fault
-use Rattle.lq_store.specs.State.{State, Transaction}
+use Rattle.lq_store.specs.Journal.{State, Transaction}
 use Rattle.lq_track.specs.Database.{Database}
 use Rattle.lq_turns.proofs.Made.{calls_both}
-use Rattle.lq_turns.specs.Goes.{Both}
+use Rattle.lq_turns.specs.Session.{Both, Session, all_called, called, session_on}
 use Rattle.lq_turns.specs.Rest.{rest}
 use Rattle.lq_turns.specs.Script.{closing, opening}
-use Rattle.lq_turns.specs.Session.{Session, all_called, called, session_on}
 use Rattle.lq_turns.specs.Set.{Meaning}
 use Rattle.lq_turns.specs.declared.call.Call.{Call}
 use Rattle.lq_turns.specs.declared.call.Call.TheVariants.{Alone}
@@ -28,10 +27,9 @@ use Rattle.lq_run.proofs.Left.{all_taken, leaves_so, ok_err, stands_there}
 use Rattle.lq_run.specs.Commands.{HasDatabase, IsNew, Leaves, LeavesAll, LeavesAs, MayRun, RunsWhole, TellsAll, both_on, script}
 use Rattle.lq_run.specs.Does.{Breaks, DoesAlone}
 use Rattle.lq_run.specs.Ends.{CameFrom, EndsAs, IsAtLock, IsBefore, IsFullBefore, IsFullSince, IsRunning, RestsAs, RestsBefore, Runs, RunsOn, StaysFull, TellsOn, at_end}
-use Rattle.lq_run.specs.Opens.{TakesLock}
+use Rattle.lq_run.specs.Moves.{TakesLock}
 use Rattle.lq_run.specs.Stands.{IsBegun, Stands}
-use Rattle.lq_run.specs.Steps.{Standing, end_of, place}
-use Rattle.lq_run.specs.UnderWay.{AfterFault, TellsTo}
+use Rattle.lq_run.specs.Steps.{Standing, end_of, place, AfterFault, TellsTo}
 use Rattle.lq_run.specs.declared.runner.End.{End}
 use Rattle.lq_run.specs.declared.runner.End.TheVariants as end
 

@@ -10,9 +10,8 @@ use Rattle.lq_model.specs.Step.{step}
 use Rattle.lq_store.specs.Journal.{of_texts}
 use Rattle.lq_store.specs.Work.{End, Outcome, Ran, Stopped, Work, committed, outcome, outcome_by, outcome_of, refused, taken}
 use Rattle.lq_track.specs.Database.{Database}
-use Rattle.lq_turns.specs.Contents.{Contents, contents_of, with_contents}
-use Rattle.lq_turns.specs.Deed.{contents_after, if_accepted, locked_after, made_of}
-use Rattle.lq_turns.specs.Held.{Agrees, StandsFor, StatementsTell, fits}
+use Rattle.lq_turns.specs.Deed.{Contents, contents_of, with_contents, contents_after, if_accepted, locked_after, made_of}
+use Rattle.lq_turns.specs.Schedule.{Agrees, StandsFor, StatementsTell, fits}
 use Rattle.lq_turns.specs.Session.{Session, executed_as, is_own, settled_if, settled_up}
 use Rattle.lq_turns.specs.declared.deed.Deed.{Deed}
 use Rattle.lq_run.specs.Does.{IsRead}

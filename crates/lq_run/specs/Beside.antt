@@ -1,18 +1,21 @@
 -- What a session's call or step leaves to the other sessions, and what it has open then, whatever the store stands for.
 use Rattle.std.specs.Option.{option_map}
-use Rattle.std.specs.Prelude.{Bool, Err, List, None, Ok, Result, false, nat_eq, not, true, ℕ, ◌++◌, ◌≡◌}
+use Rattle.std.specs.Prelude.{Bool, Err, List, None, Ok, Option, Result, false, is_some, nat_eq, not, true, ℕ, ◌++◌, ◌≡◌}
 use Rattle.lq_base.specs.declared.dialect.Dialect.{Dialect}
-use Rattle.lq_model.specs.declared.fault.StoreFault.{StoreFault}
-use Rattle.lq_store.specs.Journal.{Entry}
-use Rattle.lq_store.specs.State.{State, is_open, other}
-use Rattle.lq_turns.specs.declared.call.Call.{Call}
 use Rattle.lq_hand.specs.Hand.{AreTurns, calls_left, opens}
 use Rattle.lq_hand.specs.declared.hand.Hand.{Hand}
 use Rattle.lq_hand.specs.declared.hand.Phase.{Phase}
 use Rattle.lq_hand.specs.declared.hand.Phase.TheVariants as phase
+use Rattle.lq_model.specs.declared.fault.StoreFault.{StoreFault}
 use Rattle.lq_run.specs.Steps.{is_disk}
 use Rattle.lq_run.specs.declared.hand.Moved.{Moved}
 use Rattle.lq_run.specs.declared.hand.Moved.TheVariants as moved
+use Rattle.lq_run.specs.declared.runner.End.{End}
+use Rattle.lq_run.specs.declared.runner.End.TheVariants as end
+use Rattle.lq_run.specs.declared.runner.Step.{Step}
+use Rattle.lq_run.specs.declared.runner.Step.TheVariants as step
+use Rattle.lq_store.specs.Journal.{Entry, State, is_open, other}
+use Rattle.lq_turns.specs.declared.call.Call.{Call}
 
 -- the disk failed
 abbrev pub is_disk_result : {T : Type 0} → Result T StoreFault → Bool
@@ -52,3 +55,31 @@ AsksNext d moved.Lack hand opened = opened ≡ true
 -- where no other session had a transaction open, and the store lives, the session has open what its hand asks for
 abbrev pub IsSet : Dialect → ℕ → Hand → State → State → Type 0
 IsSet d session hand x y = other session x ≡ None → y.live ≡ true → Asks d hand.phase (calls_left hand) (is_open session y.begun)
+
+-- Which answers tell of a disk fault.
+
+abbrev pub is_disk_move : Moved → Bool
+is_disk_move moved.On = false
+is_disk_move (moved.Refused reason) = false
+is_disk_move (moved.Failed fault) = is_disk fault
+is_disk_move moved.Lack = false
+
+abbrev pub is_disk_end : End → Bool
+is_disk_end end.Done = false
+is_disk_end (end.Refused refusal) = false
+is_disk_end (end.Locked lock) = false
+is_disk_end end.Disk = true
+is_disk_end (end.Full used next) = false
+is_disk_end end.OutOfMemory = false
+
+abbrev pub is_disk_step : Step → Bool
+is_disk_step step.Going = false
+is_disk_step (step.Ended e) = is_disk_end e
+
+-- with a fault a command does not come to its end, and that its lock is gone was no fault of this step
+abbrev pub StopsAs : Option StoreFault → Step → Type 0
+StopsAs before step.Going = Unit {0}
+StopsAs before (step.Ended end.Done) = ⊥
+StopsAs before (step.Ended (end.Refused refusal)) = ⊥
+StopsAs before (step.Ended (end.Locked lock)) = is_some before ≡ true
+StopsAs before (step.Ended e) = Unit {0}

@@ -1,32 +1,29 @@
 -- A command from the call that takes the lock to the one that frees it.
 use Rattle.std.specs.Option.{option_map}
-use Rattle.std.specs.Prelude.{List, None, false, map, true, ℕ, ◌+◌, ◌++◌, ◌∷◌, ◌≡◌}
+use Rattle.std.specs.Prelude.{List, None, false, map, true, ℕ, ◌++◌, ◌+◌, ◌∷◌, ◌≡◌}
 use Rattle.lq_base.specs.declared.dialect.Dialect.{Dialect}
+use Rattle.lq_beside.specs.Replays.{calls_fit}
+use Rattle.lq_hand.specs.Hand.{AreTurns, calls_left}
+use Rattle.lq_hand.specs.Way.{Way}
+use Rattle.lq_hand.specs.declared.hand.Phase.TheVariants as phase
 use Rattle.lq_model.specs.declared.caller.Room.TheVariants.{Ordinary}
-use Rattle.lq_store.specs.Journal.{size_of_all}
-use Rattle.lq_store.specs.State.{State}
+use Rattle.lq_run.specs.Ends.{AllHoldOn, EndsAs}
+use Rattle.lq_run.specs.Stands.{HadRoom, Stands, entries_of}
+use Rattle.lq_run.specs.Steps.{KnownIn, Standing, TellsTo, place}
+use Rattle.lq_run.specs.declared.runner.End.{End}
+use Rattle.lq_run.specs.declared.runner.End.TheVariants as end
+use Rattle.lq_store.specs.Journal.{State, size_of_all}
 use Rattle.lq_track.specs.Database.{Database}
-use Rattle.lq_turns.specs.Contents.{contents_of}
-use Rattle.lq_turns.specs.Goes.{Both}
-use Rattle.lq_turns.specs.Held.{StandsFor}
+use Rattle.lq_turns.specs.Deed.{contents_of}
 use Rattle.lq_turns.specs.Rest.{Place, rest}
+use Rattle.lq_turns.specs.Schedule.{StandsFor}
 use Rattle.lq_turns.specs.Script.{opening}
-use Rattle.lq_turns.specs.Session.{Session, all_called, left_by, session_on}
+use Rattle.lq_turns.specs.Session.{Both, Session, all_called, left_by, session_on}
 use Rattle.lq_turns.specs.Set.{Meaning}
 use Rattle.lq_turns.specs.declared.call.Call.{Call}
 use Rattle.lq_turns.specs.declared.call.Call.TheVariants.{Alone}
 use Rattle.lq_turns.specs.declared.deed.Deed.TheVariants.{Locks}
 use Rattle.lq_turns.specs.declared.stamp.Stamp.{Stamp}
-use Rattle.lq_beside.specs.Replays.{calls_fit}
-use Rattle.lq_hand.specs.Hand.{AreTurns, calls_left}
-use Rattle.lq_hand.specs.declared.hand.Phase.TheVariants as phase
-use Rattle.lq_run.specs.Ends.{AllHoldOn, EndsAs}
-use Rattle.lq_run.specs.Stands.{HadRoom, Stands, entries_of}
-use Rattle.lq_hand.specs.Way.{Way}
-use Rattle.lq_run.specs.Steps.{KnownIn, Standing, place}
-use Rattle.lq_run.specs.UnderWay.{TellsTo}
-use Rattle.lq_run.specs.declared.runner.End.{End}
-use Rattle.lq_run.specs.declared.runner.End.TheVariants as end
 
 -- the contents that are committed, which are seen as well
 abbrev pub both_on : Database → Both

@@ -3,17 +3,18 @@ use Rattle.std.specs.Prelude.{IfSome, List, Ok, Some, [], false, map, true, ℕ,
 use Rattle.lq_base.specs.declared.dialect.Dialect.{Dialect}
 use Rattle.lq_base.specs.declared.identity.Identity.{Identity}
 use Rattle.lq_base.specs.declared.tracking.Tracked.{Tracked}
-use Rattle.lq_model.specs.Catalogue.{Catalogue}
-use Rattle.lq_model.specs.Names.{is_empty}
+use Rattle.lq_beside.specs.Replays.{calls_fit}
+use Rattle.lq_model.specs.Catalogue.{Catalogue, is_empty}
 use Rattle.lq_model.specs.declared.caller.Room.TheVariants.{Ordinary}
-use Rattle.lq_store.specs.Crashes.{Crashes}
-pub use Rattle.lq_store.specs.Crashes.{CrashesLeave, Since}
-use Rattle.lq_store.specs.Journal.{Entry, database as run_to}
-use Rattle.lq_store.specs.State.{State}
+use Rattle.lq_run.specs.Commands.{HasDatabase, OnAll, script}
+use Rattle.lq_run.specs.Left.{ClosesHeld}
+use Rattle.lq_run.specs.Stands.{entries_of}
+use Rattle.lq_run.specs.Steps.{Standing, place}
+use Rattle.lq_store.specs.Journal.{Crashes, Entry, State, database as run_to}
 use Rattle.lq_track.specs.Database.{Database}
 use Rattle.lq_track.specs.Log.{identity_of}
 use Rattle.lq_turns.specs.Deed.{all_done}
-use Rattle.lq_turns.specs.Held.{StandsFor}
+use Rattle.lq_turns.specs.Schedule.{StandsFor}
 use Rattle.lq_turns.specs.Script.{clear_calls, last_row, opening, release_calls, tag_calls}
 use Rattle.lq_turns.specs.Session.{session_on}
 use Rattle.lq_turns.specs.Set.{Meaning}
@@ -22,11 +23,7 @@ use Rattle.lq_turns.specs.declared.call.Call.{Call}
 use Rattle.lq_turns.specs.declared.call.Call.TheVariants.{Alone}
 use Rattle.lq_turns.specs.declared.deed.Deed.TheVariants.{Locks}
 use Rattle.lq_turns.specs.declared.stamp.Stamp.{Stamp}
-use Rattle.lq_beside.specs.Replays.{calls_fit}
-use Rattle.lq_run.specs.Commands.{HasDatabase, OnAll, script}
-use Rattle.lq_run.specs.Left.{ClosesHeld}
-use Rattle.lq_run.specs.Stands.{entries_of}
-use Rattle.lq_run.specs.Steps.{Standing, place}
+pub use Rattle.lq_store.specs.Journal.{CrashesLeave, Since}
 
 -- The entries that were there, and what a stop of these calls may leave; run again, they lead to a database.
 pub record LeftInCommand (d : Dialect) (calls : List Call) (database : Database) (there left : List Entry) : Type 0 where

@@ -1,30 +1,26 @@
 -- What a crash of the machine at any moment of a call, a step or a run leaves, in words of sessions.
 use Rattle.std.specs.Prelude.{List, None, Option, [], false, is_some, map, true, ℕ, ◌++◌, ◌∷◌, ◌≡◌, ◌⊎◌}
 use Rattle.lq_base.specs.declared.dialect.Dialect.{Dialect}
+use Rattle.lq_beside.specs.Replays.{call_fits}
+use Rattle.lq_hand.specs.Hand.{place_of}
+use Rattle.lq_hand.specs.declared.hand.Hand.{Hand}
 use Rattle.lq_model.specs.declared.caller.Room.TheVariants.{Ordinary}
 use Rattle.lq_model.specs.declared.fault.StoreFault.{StoreFault}
-use Rattle.lq_store.specs.Crashes.{Crashes}
-use Rattle.lq_store.specs.Journal.{Entry}
-use Rattle.lq_store.specs.State.{State}
-use Rattle.lq_turns.specs.Rest.{Place, Turns, rest}
+use Rattle.lq_run.specs.Crashes.{CrashesLeave}
+use Rattle.lq_run.specs.Ends.{CameFrom, IsBefore, IsRunning, at_end}
+use Rattle.lq_run.specs.Moves.{IsAt}
+use Rattle.lq_run.specs.Stands.{IsBare, IsHeld, Stands, entries_of}
+use Rattle.lq_run.specs.Steps.{IsBetween, IsThere, Standing, place}
+use Rattle.lq_store.specs.Journal.{Crashes, Entry, State}
+use Rattle.lq_turns.specs.Rest.{Place, Turns, both_of, rest}
 use Rattle.lq_turns.specs.Script.{closing, opening}
 use Rattle.lq_turns.specs.Session.{Session, called, room_of}
 use Rattle.lq_turns.specs.Set.{Meaning}
-use Rattle.lq_turns.specs.Stepped.{both_of}
 use Rattle.lq_turns.specs.Stops.{Journal}
 use Rattle.lq_turns.specs.declared.call.Call.{Call}
 use Rattle.lq_turns.specs.declared.call.Call.TheVariants.{Alone}
 use Rattle.lq_turns.specs.declared.deed.Deed.TheVariants.{Locks}
 use Rattle.lq_turns.specs.declared.stamp.Stamp.{Stamp}
-use Rattle.lq_beside.specs.Replays.{call_fits}
-use Rattle.lq_hand.specs.Hand.{place_of}
-use Rattle.lq_hand.specs.declared.hand.Hand.{Hand}
-use Rattle.lq_run.specs.Ends.{CameFrom, IsBefore, IsRunning, at_end}
-use Rattle.lq_run.specs.Holds.{IsBare, IsHeld}
-use Rattle.lq_run.specs.Moves.{IsAt}
-use Rattle.lq_run.specs.Stands.{Stands, entries_of}
-use Rattle.lq_run.specs.Steps.{IsBetween, IsThere, Standing, place}
-use Rattle.lq_run.specs.Crashes.{CrashesLeave}
 
 -- Of a call.
 

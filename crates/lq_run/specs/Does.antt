@@ -1,6 +1,7 @@
 -- What each call of a session answers, told by its deeds.
 use Rattle.std.specs.Prelude.{Err, List, Ok, Result, Some, [], true, ℕ, ◌++◌, ◌∷◌, ◌≡◌}
 use Rattle.lq_base.specs.declared.dialect.Dialect.{Dialect}
+use Rattle.lq_hand.specs.Hand.{IsWritable}
 use Rattle.lq_model.specs.SqlText.{statement_in}
 use Rattle.lq_model.specs.StatementText.{text_of}
 use Rattle.lq_model.specs.declared.caller.Room.{Room}
@@ -8,21 +9,18 @@ use Rattle.lq_model.specs.declared.caller.Room.TheVariants.{Ordinary, Release}
 use Rattle.lq_model.specs.declared.fault.StoreFault.{StoreFault}
 use Rattle.lq_model.specs.declared.fault.StoreFault.TheVariants.{Busy, Disk, Full, NotSql, OutOfMemory, Refused}
 use Rattle.lq_model.specs.declared.statement.Statement.{Statement}
+use Rattle.lq_run.specs.Stands.{Stands, deed_text, entries_of}
 use Rattle.lq_store.specs.Calls.{Fails, IsFull}
-use Rattle.lq_store.specs.Journal.{Entry}
-use Rattle.lq_store.specs.State.{State}
+use Rattle.lq_store.specs.Journal.{Entry, State}
 use Rattle.lq_track.specs.Database.{Database}
-use Rattle.lq_turns.specs.Contents.{Contents, contents_of}
-use Rattle.lq_turns.specs.Deed.{all_done, contents_after, made_of}
-use Rattle.lq_turns.specs.Held.{all_fit, fits}
+use Rattle.lq_turns.specs.Deed.{Contents, all_done, contents_after, contents_of, made_of}
+use Rattle.lq_turns.specs.Schedule.{all_fit, fits}
 use Rattle.lq_turns.specs.Session.{Session, called}
 use Rattle.lq_turns.specs.declared.call.Call.{Call}
 use Rattle.lq_turns.specs.declared.call.Call.TheVariants.{Abort, Alone, Begin, Commit, Execute}
 use Rattle.lq_turns.specs.declared.deed.Deed.{Deed}
 use Rattle.lq_turns.specs.declared.deed.Deed.TheVariants.{Locks}
 use Rattle.lq_turns.specs.declared.deed.OnLock.TheVariants.{Freed}
-use Rattle.lq_hand.specs.Writable.{IsWritable}
-use Rattle.lq_run.specs.Stands.{Stands, deed_text, entries_of}
 
 -- the text is the statement's, and is read back as it
 abbrev pub Reads : Dialect → Statement → List ℕ → Type 0

@@ -1,30 +1,26 @@
 -- How a command ends that runs alone.
-use Rattle.std.specs.Prelude.{Bool, List, None, Option, Some, [], false, map, true, ℕ, ◌+◌, ◌++◌, ◌∷◌, ◌≡◌, ◌⊎◌}
+use Rattle.std.specs.Prelude.{Bool, List, None, Option, Some, [], false, map, true, ℕ, ◌++◌, ◌+◌, ◌∷◌, ◌≡◌, ◌⊎◌}
 use Rattle.lq_base.specs.declared.dialect.Dialect.{Dialect}
+use Rattle.lq_hand.specs.Way.{Way}
 use Rattle.lq_model.specs.declared.caller.Room.TheVariants.{Ordinary}
 use Rattle.lq_model.specs.declared.fault.StoreFault.{StoreFault}
 use Rattle.lq_model.specs.declared.fault.StoreFault.TheVariants as fault
-use Rattle.lq_store.specs.Journal.{end_of, is_full, size_of_all}
-use Rattle.lq_store.specs.State.{State}
-use Rattle.lq_turns.specs.Rest.{Place, rest}
+use Rattle.lq_run.specs.Does.{Breaks}
+use Rattle.lq_run.specs.Stands.{IsBare, IsHeld, IsMarked, Stands, entries_of}
+use Rattle.lq_run.specs.Steps.{IsAfterFault, IsThere, Standing, TellsTo, is_disk, place}
+use Rattle.lq_run.specs.declared.runner.End.{End}
+use Rattle.lq_run.specs.declared.runner.End.TheVariants as end
+use Rattle.lq_store.specs.Journal.{State, end_of, is_full, size_of_all}
+use Rattle.lq_turns.specs.Rest.{Place, both_of, rest}
 use Rattle.lq_turns.specs.Script.{closing, opening}
 use Rattle.lq_turns.specs.Session.{Session, all_called, called, room_of}
 use Rattle.lq_turns.specs.Set.{Meaning}
-use Rattle.lq_turns.specs.Stepped.{both_of}
 use Rattle.lq_turns.specs.declared.call.Call.{Call}
 use Rattle.lq_turns.specs.declared.call.Call.TheVariants.{Abort, Alone, Begin, Commit, Execute}
 use Rattle.lq_turns.specs.declared.deed.Deed.{Deed}
 use Rattle.lq_turns.specs.declared.deed.Deed.TheVariants.{Locks, Rows, Users}
 use Rattle.lq_turns.specs.declared.deed.OnLock.TheVariants.{Freed, LockMade, LockRowMade, LogMade, Marked, Taken}
 use Rattle.lq_turns.specs.declared.stamp.Stamp.{Stamp}
-use Rattle.lq_run.specs.Does.{Breaks}
-use Rattle.lq_run.specs.Holds.{IsBare, IsHeld, IsMarked}
-use Rattle.lq_run.specs.Stands.{Stands, entries_of}
-use Rattle.lq_hand.specs.Way.{Way}
-use Rattle.lq_run.specs.Steps.{IsThere, Standing, is_disk, place}
-use Rattle.lq_run.specs.UnderWay.{IsAfterFault, TellsTo}
-use Rattle.lq_run.specs.declared.runner.End.{End}
-use Rattle.lq_run.specs.declared.runner.End.TheVariants as end
 
 -- the name, bare or with a mark behind it
 abbrev pub IsNameOf : List ℕ → List ℕ → Type 0

@@ -1,19 +1,25 @@
 -- What is left in words of databases: by a call that is a transaction of its own, and by a command that a fault of the store ended.
 use Rattle.std.specs.Option.{option_map}
-use Rattle.std.specs.Prelude.{Err, List, None, Ok, Result, Some, [], false, map, true, ℕ, ◌+◌, ◌++◌, ◌∷◌, ◌≡◌, ◌⊎◌}
+use Rattle.std.specs.Prelude.{Err, List, None, Ok, Result, Some, [], false, map, true, ℕ, ◌++◌, ◌+◌, ◌∷◌, ◌≡◌, ◌⊎◌}
 use Rattle.lq_base.specs.declared.dialect.Dialect.{Dialect}
 use Rattle.lq_base.specs.declared.identity.Identity.{Identity}
 use Rattle.lq_base.specs.declared.tracking.Lock.{Lock}
 use Rattle.lq_base.specs.declared.tracking.Tracked.{Tracked}
+use Rattle.lq_beside.specs.Replays.{calls_fit}
 use Rattle.lq_drill.specs.Faults.{IsLetGo, freed}
-use Rattle.lq_model.specs.Names.{is_empty}
+use Rattle.lq_model.specs.Catalogue.{is_empty}
 use Rattle.lq_model.specs.declared.caller.Room.{Room}
 use Rattle.lq_model.specs.declared.caller.Room.TheVariants.{Ordinary}
 use Rattle.lq_model.specs.declared.fault.StoreFault.{StoreFault}
 use Rattle.lq_model.specs.declared.fault.StoreFault.TheVariants as fault
+use Rattle.lq_run.specs.Commands.{HasDatabase, Leaves, OnAll, script}
+use Rattle.lq_run.specs.Ends.{IsLastCall}
+use Rattle.lq_run.specs.Stands.{entries_of}
+use Rattle.lq_run.specs.Steps.{Standing, place}
+use Rattle.lq_run.specs.declared.runner.End.{End}
+use Rattle.lq_run.specs.declared.runner.End.TheVariants as end
 use Rattle.lq_store.specs.Calls.{Fails, aborted}
-use Rattle.lq_store.specs.Journal.{end_of, is_full, size_of_all}
-use Rattle.lq_store.specs.State.{State}
+use Rattle.lq_store.specs.Journal.{State, end_of, is_full, size_of_all}
 use Rattle.lq_track.specs.Database.{Database}
 use Rattle.lq_track.specs.Log.{identity_of}
 use Rattle.lq_turns.specs.Deed.{all_done}
@@ -26,13 +32,6 @@ use Rattle.lq_turns.specs.declared.call.Call.TheVariants.{Alone}
 use Rattle.lq_turns.specs.declared.deed.Deed.TheVariants.{Locks}
 use Rattle.lq_turns.specs.declared.deed.OnLock.TheVariants.{Freed}
 use Rattle.lq_turns.specs.declared.stamp.Stamp.{Stamp}
-use Rattle.lq_beside.specs.Replays.{calls_fit}
-use Rattle.lq_run.specs.Commands.{HasDatabase, Leaves, OnAll, script}
-use Rattle.lq_run.specs.Ends.{IsLastCall}
-use Rattle.lq_run.specs.Stands.{entries_of}
-use Rattle.lq_run.specs.Steps.{Standing, place}
-use Rattle.lq_run.specs.declared.runner.End.{End}
-use Rattle.lq_run.specs.declared.runner.End.TheVariants as end
 
 -- one of these calls frees the lock
 pub record HasClosing (calls : List Call) : Type 0 where

@@ -1,15 +1,10 @@
 pub mod Stands
 pub mod Does
 pub mod Moves
-pub mod Holds
-pub mod NoChanges
 pub mod Steps
-pub mod UnderWay
+pub mod Beside
 pub mod Ends
 pub mod Commands
-pub mod Faults
-pub mod Opens
 pub mod Left
 pub mod Crashes
 pub mod Crashing
-pub mod Beside

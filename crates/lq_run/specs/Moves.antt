@@ -1,35 +1,39 @@
 -- What a runner makes of a call of its turn.
-use Rattle.std.specs.Prelude.{Bool, Err, List, None, Ok, Option, Result, Some, [], true, ℕ, ◌∷◌, ◌≡◌}
+use Rattle.std.specs.Prelude.{Bool, Err, List, None, Ok, Option, Result, Some, [], map, true, ℕ, ◌++◌, ◌∷◌, ◌≡◌}
 use Rattle.lq_base.specs.declared.dialect.Dialect.{Dialect}
 use Rattle.lq_base.specs.declared.reason.Reason.{Reason}
+use Rattle.lq_beside.specs.Replays.{call_fits, calls_fit}
+use Rattle.lq_hand.specs.Hand.{IsReady, calls_left, opens, place_of}
+use Rattle.lq_hand.specs.Way.{first_coming, refusal_at, refused_in, seen_after, sights, with_accepted, with_refused}
+use Rattle.lq_hand.specs.declared.hand.Hand.{Hand}
+use Rattle.lq_hand.specs.declared.hand.Phase.{Phase}
+use Rattle.lq_hand.specs.declared.hand.Phase.TheVariants as phase
+use Rattle.lq_hand.specs.declared.progress.Progress.{Progress}
 use Rattle.lq_model.specs.Catalogue.{Catalogue}
 use Rattle.lq_model.specs.declared.caller.Room.{Room}
 use Rattle.lq_model.specs.declared.caller.Room.TheVariants.{Ordinary}
 use Rattle.lq_model.specs.declared.fault.StoreFault.{StoreFault}
 use Rattle.lq_model.specs.declared.fault.StoreFault.TheVariants as fault
-use Rattle.lq_store.specs.State.{State, is_open}
-use Rattle.lq_turns.specs.Contents.{Contents, contents_of}
-use Rattle.lq_turns.specs.Deed.{contents_after}
-use Rattle.lq_turns.specs.Goes.{are_accepted, went}
-use Rattle.lq_turns.specs.Rest.{GivingUp, Inside, Place, Turns, if_goes_on, rest}
-use Rattle.lq_turns.specs.Session.{Session, called, room_of}
-use Rattle.lq_turns.specs.Set.{Meaning}
-use Rattle.lq_turns.specs.Stepped.{Went, both_of}
-use Rattle.lq_turns.specs.declared.call.Call.{Call}
-use Rattle.lq_turns.specs.declared.call.Call.TheVariants.{Abort, Alone, Begin, Commit, Execute}
-use Rattle.lq_turns.specs.declared.stamp.Stamp.{Stamp}
-use Rattle.lq_beside.specs.Replays.{call_fits, calls_fit}
-use Rattle.lq_hand.specs.Counts.{first_coming, refusal_at, with_accepted, with_refused}
-use Rattle.lq_hand.specs.Hand.{IsReady, calls_left, opens, place_of}
-use Rattle.lq_hand.specs.Way.{refused_in, seen_after, sights}
-use Rattle.lq_hand.specs.declared.hand.Hand.{Hand}
-use Rattle.lq_hand.specs.declared.hand.Phase.{Phase}
-use Rattle.lq_hand.specs.declared.hand.Phase.TheVariants as phase
-use Rattle.lq_hand.specs.declared.progress.Progress.{Progress}
-use Rattle.lq_run.specs.Does.{Faults}
+use Rattle.lq_run.specs.Does.{DoesAlone, Faults}
 use Rattle.lq_run.specs.Stands.{Stands}
+use Rattle.lq_run.specs.declared.alone.Tables.{Tables}
 use Rattle.lq_run.specs.declared.hand.Moved.{Moved}
 use Rattle.lq_run.specs.declared.hand.Moved.TheVariants as moved
+use Rattle.lq_store.specs.Journal.{State, is_open, other}
+use Rattle.lq_track.specs.Database.{Database}
+use Rattle.lq_turns.specs.Deed.{Contents, contents_after, contents_of}
+use Rattle.lq_turns.specs.Rest.{GivingUp, Inside, Place, Turns, Went, both_of, if_goes_on, rest}
+use Rattle.lq_turns.specs.Schedule.{StandsFor}
+use Rattle.lq_turns.specs.Script.{if_missing, opening}
+use Rattle.lq_turns.specs.Session.{Session, are_accepted, called, room_of, went}
+use Rattle.lq_turns.specs.Set.{Meaning}
+use Rattle.lq_turns.specs.declared.call.Call.{Call}
+use Rattle.lq_turns.specs.declared.call.Call.TheVariants.{Abort, Alone, Begin, Commit, Execute}
+use Rattle.lq_turns.specs.declared.deed.Deed.{Deed}
+use Rattle.lq_turns.specs.declared.deed.Deed.TheVariants.{Locks}
+use Rattle.lq_turns.specs.declared.deed.OnLock.{OnLock}
+use Rattle.lq_turns.specs.declared.deed.OnLock.TheVariants.{LockMade, LockRowMade, LogMade, Taken}
+use Rattle.lq_turns.specs.declared.stamp.Stamp.{Stamp}
 
 abbrev pub moved_of : Result (Unit {0}) StoreFault → Moved
 moved_of (Ok u) = moved.On
@@ -143,3 +147,26 @@ module _ {Key : Type 0} (d : Dialect) (m : Meaning Key) (stamp : Stamp) (number 
 
   abbrev pub Takes : Hand → State → Moved → Hand → State → Type 0
   Takes hand x result new y = (turns : Turns Key) (start : State) (s : Session) → IsAt (place_of hand turns) x start s → TakesAs hand turns start s x result new y
+
+-- The calls of a command that stand alone: the one that takes the lock, a tag's, and the one that frees the lock.
+
+-- the deeds, by what of the tracking tables is there
+abbrev pub opening_by : Stamp → Tables → List OnLock
+opening_by stamp there = if_missing there.log LogMade ++ (if_missing there.lock LockMade ++ (if_missing there.lock_row LockRowMade ++ Taken stamp.reading stamp.who ∷ []))
+
+-- a command's first deeds on every database that is seen
+abbrev pub OpensOn : Dialect → Stamp → Catalogue → List Deed → Type 0
+OpensOn d stamp c deeds = (database : Database) → StandsFor d c database → deeds ≡ map Locks (opening stamp database)
+
+-- for every session for which the store stands, its opening is done in a transaction of its own
+abbrev pub TakesLock : Dialect → Stamp → ℕ → State → Result (Unit {0}) StoreFault → State → Type 0
+TakesLock d stamp number x result y = (start : State) (s : Session) → start.dialect ≡ d → Stands start number x s → DoesAlone start number x s (map Locks (opening stamp s.seen)) Ordinary result y
+
+-- before it there was no memory, or another session has a transaction open
+abbrev pub FailsFirst : ℕ → State → StoreFault → Type 0
+FailsFirst number x fault.OutOfMemory = Unit {0}
+FailsFirst number x (fault.Busy n) = other number x ≡ Some n
+FailsFirst number x fault.Disk = ⊥
+FailsFirst number x fault.NotSql = ⊥
+FailsFirst number x (fault.Full used next) = ⊥
+FailsFirst number x (fault.Refused reason) = ⊥

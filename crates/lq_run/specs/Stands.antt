@@ -1,20 +1,63 @@
--- A store's state stands for a session of deeds.
+-- How the lock and a store stand for a command that has begun.
 use Rattle.std.specs.Option.{option_map}
-use Rattle.std.specs.Prelude.{List, None, Option, Some, [], false, map, true, ℕ, ◌+◌, ◌++◌, ◌∷◌, ◌≡◌, ◌≤◌}
+use Rattle.std.specs.Prelude.{Bool, List, None, Ok, Option, Some, [], false, map, pos, true, ℕ, ◌++◌, ◌+◌, ◌∷◌, ◌≡◌, ◌≤◌, ◌⊎◌}
 use Rattle.lq_base.specs.declared.dialect.Dialect.{Dialect}
+use Rattle.lq_base.specs.declared.tracking.Lock.{Lock}
+use Rattle.lq_hand.specs.Way.{Way}
+use Rattle.lq_model.specs.StatementText.{text_of}
 use Rattle.lq_model.specs.declared.caller.ByText.{ByText}
 use Rattle.lq_model.specs.declared.caller.Room.{Room}
 use Rattle.lq_model.specs.declared.caller.Room.TheVariants.{Ordinary, Release}
-use Rattle.lq_model.specs.StatementText.{text_of}
-use Rattle.lq_store.specs.Journal.{Entry, end_of, size_of_all}
+use Rattle.lq_run.specs.declared.holding.Holding.{Holding}
+use Rattle.lq_run.specs.declared.holding.Holding.TheVariants as holding
+use Rattle.lq_store.specs.Journal.{Entry, State, Transaction, end_of, size_of_all}
 use Rattle.lq_store.specs.Journal.Entry.{Texts}
-use Rattle.lq_store.specs.State.{State, Transaction}
+use Rattle.lq_track.specs.Lock.{taken}
 use Rattle.lq_turns.specs.Deed.{made_of}
-use Rattle.lq_turns.specs.Held.{StandsFor}
+use Rattle.lq_turns.specs.Schedule.{StandsFor}
 use Rattle.lq_turns.specs.Session.{Session}
+use Rattle.lq_turns.specs.Set.{Meaning}
 use Rattle.lq_turns.specs.declared.deed.Deed.{Deed}
 use Rattle.lq_turns.specs.declared.deed.Deed.TheVariants.{Locks}
 use Rattle.lq_turns.specs.declared.deed.OnLock.TheVariants.{Freed}
+use Rattle.lq_turns.specs.declared.stamp.Stamp.{Stamp}
+
+-- How the lock stands for a command that took it.
+
+module _ (stamp : Stamp) (lock : Lock) where
+  -- it is held with the command's reading and bare name
+  abbrev pub IsBare : Type 0
+  IsBare = lock ≡ taken (pos stamp.reading) stamp.who
+
+  -- or with a mark behind the name
+  abbrev pub IsMarked : Type 0
+  IsMarked = (mark : List ℕ) × (lock ≡ taken (pos stamp.reading) (stamp.who ++ 124 ∷ mark))
+
+  abbrev pub IsHeld : Type 0
+  IsHeld = IsBare ⊎ IsMarked
+
+  abbrev pub Holds : Holding → Type 0
+  Holds holding.Bare = IsBare
+  Holds holding.Marked = IsMarked
+  Holds holding.Lost = IsHeld → ⊥
+
+  abbrev pub HoldsAs : Bool → Type 0
+  HoldsAs true = IsMarked
+  HoldsAs false = IsBare
+
+-- what LOCKEDBY is to a name
+abbrev pub Names : List ℕ → List ℕ → Holding → Type 0
+Names who by holding.Bare = by ≡ who
+Names who by holding.Marked = (mark : List ℕ) × (by ≡ who ++ 124 ∷ mark)
+Names who by holding.Lost = ((by ≡ who) ⊎ ((mark : List ℕ) × (by ≡ who ++ 124 ∷ mark))) → ⊥
+
+-- by what stands behind the name
+abbrev pub StandsBehind : List ℕ → Holding → Type 0
+StandsBehind rest holding.Bare = rest ≡ []
+StandsBehind rest holding.Marked = (mark : List ℕ) × (rest ≡ 124 ∷ mark)
+StandsBehind rest holding.Lost = ((rest ≡ []) ⊎ ((mark : List ℕ) × (rest ≡ 124 ∷ mark))) → ⊥
+
+-- A store's state stands for a session of deeds.
 
 -- the canonical text of the deed's statement
 abbrev pub deed_text : Dialect → Deed → List ℕ
@@ -61,3 +104,12 @@ pub record Stands (start : State) (number : ℕ) (x : State) (s : Session) : Typ
   pub entries : x.entries ≡ option_map (λ entries. entries ++ entries_of start.dialect s.entries) start.entries
   pub used : x.used ≡ start.used + size_of_all (entries_of start.dialect s.entries)
   pub room : HadRoom start.dialect start.limit start.used s.entries
+
+-- No changes.
+
+abbrev pub no_changes : Meaning (Unit {0})
+no_changes = record { is_for = λ d x. true; gives = λ d x. []; effect = λ d x c. Ok c; fresh = λ d x c. true; inverse = λ d x. None }
+
+-- a source that tells nothing
+abbrev pub nothing_told : Way
+nothing_told = record { knows = λ c. Unit {0}; awaits = λ sights c. Unit {0}; yields = λ goes_on refusal c. Unit {0}; tells = λ refusal. Unit {0}; lacks = Unit {0} }

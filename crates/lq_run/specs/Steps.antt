@@ -2,40 +2,37 @@
 use Rattle.std.specs.Prelude.{Bool, List, None, Option, Some, [], false, true, ℕ, ◌∷◌, ◌≡◌, ◌⊎◌}
 use Rattle.lq_base.specs.declared.dialect.Dialect.{Dialect}
 use Rattle.lq_base.specs.declared.tracking.Lock.{Lock}
+use Rattle.lq_hand.specs.Hand.{calls_left, place_of}
+use Rattle.lq_hand.specs.Way.{Expects, IsUnderWay, Way, coming_of, no_progress, progress_after, refusal_by, refused_in}
+use Rattle.lq_hand.specs.declared.hand.Hand.{Hand}
+use Rattle.lq_hand.specs.declared.hand.Phase.{Phase}
+use Rattle.lq_hand.specs.declared.hand.Phase.TheVariants as phase
+use Rattle.lq_hand.specs.declared.progress.Coming.{Coming}
+use Rattle.lq_hand.specs.declared.progress.Coming.TheVariants as coming
+use Rattle.lq_hand.specs.declared.progress.Progress.{Progress}
 use Rattle.lq_model.specs.Catalogue.{Catalogue}
 use Rattle.lq_model.specs.declared.caller.Room.TheVariants.{Ordinary, Release}
 use Rattle.lq_model.specs.declared.fault.StoreFault.{StoreFault}
 use Rattle.lq_model.specs.declared.fault.StoreFault.TheVariants as fault
-use Rattle.lq_store.specs.State.{State, other}
-use Rattle.lq_track.specs.Database.{Database}
-use Rattle.lq_turns.specs.Contents.{Contents}
-use Rattle.lq_turns.specs.Goes.{Both, are_accepted, went}
-use Rattle.lq_turns.specs.Held.{StandsFor}
-use Rattle.lq_turns.specs.Rest.{GivingUp, Inside, NoMore, Over, Place, Turns, between, if_goes_on, rest}
-use Rattle.lq_turns.specs.Script.{closing}
-use Rattle.lq_turns.specs.Session.{Session, called}
-use Rattle.lq_turns.specs.Set.{Meaning}
-use Rattle.lq_turns.specs.Stepped.{both_of}
-use Rattle.lq_turns.specs.declared.call.Call.{Call}
-use Rattle.lq_turns.specs.declared.call.Call.TheVariants.{Abort}
-use Rattle.lq_turns.specs.declared.stamp.Stamp.{Stamp}
-use Rattle.lq_turns.specs.declared.stop.Refusal.{Refusal}
-use Rattle.lq_hand.specs.Hand.{calls_left, place_of}
-use Rattle.lq_hand.specs.Way.{Expects, Way, refused_in}
-use Rattle.lq_hand.specs.declared.hand.Hand.{Hand}
-use Rattle.lq_hand.specs.declared.hand.Phase.{Phase}
-use Rattle.lq_hand.specs.declared.hand.Phase.TheVariants as phase
-use Rattle.lq_hand.specs.Counts.{coming_of, no_progress, progress_after, refusal_by}
-use Rattle.lq_run.specs.Holds.{IsBare, IsHeld, IsMarked}
 use Rattle.lq_run.specs.Moves.{Goes, IsAt, Meets, refusal_of, unseen}
-use Rattle.lq_hand.specs.declared.progress.Coming.{Coming}
-use Rattle.lq_hand.specs.declared.progress.Coming.TheVariants as coming
-use Rattle.lq_hand.specs.declared.progress.Progress.{Progress}
+use Rattle.lq_run.specs.Stands.{IsBare, IsHeld, IsMarked}
 use Rattle.lq_run.specs.declared.runner.End.{End}
 use Rattle.lq_run.specs.declared.runner.End.TheVariants as end
 use Rattle.lq_run.specs.declared.runner.Runner.{Runner}
 use Rattle.lq_run.specs.declared.runner.Step.{Step}
 use Rattle.lq_run.specs.declared.runner.Step.TheVariants as step
+use Rattle.lq_store.specs.Journal.{State, other}
+use Rattle.lq_track.specs.Database.{Database}
+use Rattle.lq_turns.specs.Deed.{Contents}
+use Rattle.lq_turns.specs.Rest.{GivingUp, Inside, NoMore, Over, Place, Turns, between, both_of, if_goes_on, rest}
+use Rattle.lq_turns.specs.Schedule.{StandsFor}
+use Rattle.lq_turns.specs.Script.{closing}
+use Rattle.lq_turns.specs.Session.{Both, Session, are_accepted, called, went}
+use Rattle.lq_turns.specs.Set.{Meaning}
+use Rattle.lq_turns.specs.declared.call.Call.{Call}
+use Rattle.lq_turns.specs.declared.call.Call.TheVariants.{Abort}
+use Rattle.lq_turns.specs.declared.stamp.Stamp.{Stamp}
+use Rattle.lq_turns.specs.declared.stop.Refusal.{Refusal}
 
 -- how a command stands between two of its steps
 pub record Standing (Key Told : Type 0) : Type 1 where
@@ -265,3 +262,43 @@ FailsAs false why at after result = (result ≡ step.Going) × (at ≡ phase.Giv
 
 abbrev pub FailsTo : StoreFault → Phase → Option StoreFault → Step → Type 0
 FailsTo why at after result = FailsAs (is_disk why) why at after result
+
+-- What a source has told where a full journal ends its command.
+
+-- at a full journal
+abbrev pub IfFull : End → Type 0 → Type 0
+IfFull (end.Full used next) holds = holds
+IfFull end.Done holds = Unit {0}
+IfFull (end.Refused refusal) holds = Unit {0}
+IfFull (end.Locked lock) holds = Unit {0}
+IfFull end.Disk holds = Unit {0}
+IfFull end.OutOfMemory holds = Unit {0}
+
+-- where its command has ended a source has told all; at a full journal it is still on its way
+abbrev pub TellsTo : Way → End → Type 0
+TellsTo way e = TellsAs way e × IfFull e (IsUnderWay way)
+
+-- after a fault no call of a turn is made, and the source is on its way
+abbrev pub AfterFault : Option StoreFault → Hand → Way → Type 0
+AfterFault None hand way = Unit {0}
+AfterFault (Some why) hand way = (hand.phase ≡ phase.Inside → hand.calls ≡ []) × IsUnderWay way
+
+module _ {Key Told : Type 0} (d : Dialect) (stamp : Stamp) where
+  -- a command stands so after a fault
+  abbrev pub IsAfterFault : Standing Key Told → Told → Type 0
+  IsAfterFault r told = AfterFault r.fault r.hand (r.way d stamp told)
+
+  -- after a step it still does, or does by now; or the step ended the command
+  abbrev pub StaysAs : Standing Key Told → Told → Step → Type 0
+  StaysAs after told step.Going = IsAfterFault after told
+  StaysAs after told (step.Ended e) = IfFull e (IsUnderWay (after.way d stamp told))
+
+module _ {Key Told : Type 0} (d : Dialect) (m : Meaning Key) (stamp : Stamp) (number : ℕ) where
+  -- from wherever it stands
+  abbrev pub Stays : Standing Key Told → Standing Key Told → State → Step → Type 0
+  Stays before after x result = (start : State) (s : Session) (told : Told) → IsThere d m stamp number before x start s told → (IsBetween before.hand → IsHeld stamp s.committed.lock)
+      → IsAfterFault d stamp before told → StaysAs d stamp after told result
+
+  -- and where the source has looked at what the next call sees
+  abbrev pub StaysShown : Standing Key Told → Standing Key Told → State → Step → Type 0
+  StaysShown before after x result = (start : State) (s : Session) (told : Told) → IsShown d m stamp number before x start s told → IsAfterFault d stamp before told → StaysAs d stamp after told result

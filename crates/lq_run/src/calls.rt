@@ -1,13 +1,12 @@
 ghost use Rattle.std.specs.Prelude.{◌≡◌, ◌++◌, IfOk, IsTrue, None, OnOk, false, true};
-ghost use Rattle.lq_hand.specs.Writable.{IsWritable};
+ghost use Rattle.lq_hand.specs.Hand.{IsWritable};
 ghost use Rattle.lq_run.specs.Beside.{Beside, is_disk_result, open_after};
-ghost use Rattle.lq_store.specs.Crashes.{CrashesLeave, Keeps};
+ghost use Rattle.lq_store.specs.Journal.{CrashesLeave, Keeps, is_open, other};
 ghost use Rattle.lq_run.specs.Crashing.{CrashesFor, LeftAlone};
 ghost use Rattle.lq_run.specs.Does.{AbortFor, AllRead, AllWritable, AloneFor, BeginFor, CommitFor, DoesFor, IsRead, MayFill, Reads};
 ghost use Rattle.lq_run.specs.Moves.{moved_of};
 ghost use Rattle.lq_run.specs.Stands.{text_by, texts_of};
 ghost use Rattle.lq_store.specs.Calls.{CountsDisk};
-ghost use Rattle.lq_store.specs.State.{is_open, other};
 ghost use Rattle.lq_turns.specs.Deed.{made_of};
 ghost use Rattle.lq_turns.specs.declared.call.Call.TheVariants as call;
 

@@ -2,8 +2,8 @@ ghost use Rattle.std.specs.Prelude.{◌≡◌, ◌≤◌, true};
 ghost use Rattle.lq_run.specs.Commands.{IsNew, LeavesAll, RunsWhole, SomeMayRun, TellsAll};
 ghost use Rattle.lq_run.specs.Crashes.{BehindAll, CrashesAll};
 ghost use Rattle.lq_run.specs.Left.{LeftAll};
-ghost use Rattle.lq_outside.specs.Count.{Rose};
-ghost use Rattle.lq_run.specs.Faults.{is_disk_end};
+ghost use Rattle.lq_outside.specs.Forms.{Rose};
+ghost use Rattle.lq_run.specs.Beside.{is_disk_end};
 ghost use Rattle.lq_run.specs.Steps.{standing};
 
 use crate::alone::take_lock;

@@ -1,8 +1,8 @@
 ghost use Rattle.std.specs.Prelude.{◌≡◌, IfOk, Some, true};
 ghost use Rattle.lq_model.specs.SqlText.{statement_in};
-ghost use Rattle.lq_model.specs.Statement.{is_statement};
+ghost use Rattle.lq_model.specs.Step.{is_statement};
 ghost use Rattle.lq_model.specs.StatementText.{text_of};
-ghost use Rattle.lq_hand.specs.Writable.{IsWritable};
+ghost use Rattle.lq_hand.specs.Hand.{IsWritable};
 ghost use Rattle.lq_run.specs.Does.{Reads};
 ghost use Rattle.lq_turns.specs.Deed.{lock_statement, made_of, row_statement};
 ghost use Rattle.lq_turns.specs.declared.deed.Deed.TheVariants as deed;

@@ -1,14 +1,11 @@
 ghost use Rattle.std.specs.Prelude.{◌≡◌, ◌≢◌, ◌≤◌, IsTrue, None, [], false, true};
-ghost use Rattle.lq_hand.specs.Hand.{AreTurns, IsNext, calls_left};
+ghost use Rattle.lq_hand.specs.Hand.{AreTurns, IsNext, calls_left, IsWritable};
 ghost use Rattle.lq_hand.specs.declared.hand.Phase.TheVariants as phase;
-ghost use Rattle.lq_hand.specs.Writable.{IsWritable};
-ghost use Rattle.lq_outside.specs.Count.{Rose};
-ghost use Rattle.lq_run.specs.Beside.{AsksNext, Beside, open_after};
+ghost use Rattle.lq_outside.specs.Forms.{Rose};
+ghost use Rattle.lq_run.specs.Beside.{AsksNext, Beside, open_after, is_disk_move};
 ghost use Rattle.lq_run.specs.Crashing.{CrashesFor, CrashesTaken};
-ghost use Rattle.lq_store.specs.Crashes.{CrashesLeave, Keeps};
-ghost use Rattle.lq_run.specs.Faults.{is_disk_move};
+ghost use Rattle.lq_store.specs.Journal.{CrashesLeave, Keeps, is_open, other};
 ghost use Rattle.lq_run.specs.Moves.{Makes, MovesTo, Takes, WasOpen, moved_of};
-ghost use Rattle.lq_store.specs.State.{is_open, other};
 ghost use Rattle.lq_turns.specs.declared.call.Call.TheVariants as call;
 ghost use Rattle.lq_turns.specs.declared.stamp.Stamp.{Stamp};
 

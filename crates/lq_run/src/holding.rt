@@ -1,5 +1,5 @@
 ghost use Rattle.std.specs.Prelude.{◌≡◌, ◌≢◌, ◌↔◌, ◌++◌, ◌<◌, ◌^◌, IsTrue, List, MatchOption, Some, pos, ℕ};
-ghost use Rattle.lq_run.specs.Holds.{Holds, Names, StandsBehind};
+ghost use Rattle.lq_run.specs.Stands.{Holds, Names, StandsBehind};
 
 use lq_base::{Lock, Text};
 use lq_turns::Stamp;

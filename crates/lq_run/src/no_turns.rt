@@ -9,7 +9,7 @@ use std::alloc::Global;
 pub struct NoTurns;
 
 impl Source for NoTurns {
-    ghost use Rattle.lq_run.specs.NoChanges.{no_changes, nothing_told};
+    ghost use Rattle.lq_run.specs.Stands.{no_changes, nothing_told};
     ghost use Rattle.lq_turns.specs.Rest.{NoMore};
 
     ghost Key = { Unit {0} };

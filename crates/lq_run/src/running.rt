@@ -1,8 +1,8 @@
 ghost use Rattle.std.specs.Prelude.{◌≡◌, ◌≤◌, false, true};
 ghost use Rattle.lq_run.specs.Crashing.{CrashesOn};
 ghost use Rattle.lq_run.specs.Ends.{Runs, RunsOn, TellsOn};
-ghost use Rattle.lq_outside.specs.Count.{Rose};
-ghost use Rattle.lq_run.specs.Faults.{is_disk_end};
+ghost use Rattle.lq_outside.specs.Forms.{Rose};
+ghost use Rattle.lq_run.specs.Beside.{is_disk_end};
 ghost use Rattle.lq_run.specs.Steps.{is_over, standing};
 
 use crate::runner::{End, Runner, Step};

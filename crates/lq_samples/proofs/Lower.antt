@@ -5,7 +5,7 @@ use Rattle.std.specs.Char.{to_ascii_lowercase}
 use Rattle.std.specs.Prelude.{List, [], bytes_eq, codes, map, refl, ℕ, ◌||◌, ◌∷◌, ◌≡◌}
 use Rattle.std.specs.Str.{str_eq_ignore_ascii_case, str_to_ascii_lowercase}
 use Rattle.lq_base.specs.Name.{is_named}
-use Rattle.lq_model.specs.Reserved.{is_tracking, lower}
+use Rattle.lq_model.specs.NameSpaces.{is_tracking, lower}
 use Rattle.lq_model.proofs.Lists.{named_itself, same_name, true_false, whether}
 
 lower_same : (b : ℕ) → to_ascii_lowercase b ≡ lower b

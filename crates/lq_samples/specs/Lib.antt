@@ -1,2 +1,2 @@
-pub mod NewSequence
 pub mod NewSequenceLaws
+pub mod NewSequence

@@ -5,13 +5,12 @@ use Rattle.lq_base.specs.declared.dialect.Dialect.{Dialect}
 use Rattle.lq_base.specs.declared.name.Name.{Name}
 use Rattle.lq_base.specs.declared.reason.Reason.{Reason}
 use Rattle.lq_base.specs.declared.reason.Reason.TheVariants as reason
-use Rattle.lq_model.specs.Canon.{CanonicalChange, text}
 use Rattle.lq_model.specs.Catalogue.{Catalogue, with_sequence}
-use Rattle.lq_model.specs.NameSpaces.{is_taken}
-use Rattle.lq_model.specs.Reasons.{unless}
-use Rattle.lq_model.specs.Reserved.{is_tracking, lock_key}
-use Rattle.lq_model.specs.Statement.{is_pg}
-use Rattle.lq_model.specs.Written.{Row, change_of}
+use Rattle.lq_model.specs.Changes.{CanonicalChange, text}
+use Rattle.lq_model.specs.NameSpaces.{is_taken, is_tracking, lock_key}
+use Rattle.lq_model.specs.Plan.{unless}
+use Rattle.lq_model.specs.Step.{is_pg}
+use Rattle.lq_model.specs.TakesBack.{Row, change_of}
 use Rattle.lq_model.specs.declared.statement.Statement.{Statement}
 use Rattle.lq_model.specs.declared.statement.Statement.TheVariants.{CreateSequence, DropSequence}
 

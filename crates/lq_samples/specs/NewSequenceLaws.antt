@@ -2,30 +2,26 @@
 use Rattle.std.proofs.Common.{ap, subst, sym, ◌∙◌}
 use Rattle.std.specs.List.{list_all}
 use Rattle.std.specs.Prelude.{Bool, Err, Ok, Option, Result, Some, [], codes, false, pos, refl, true, ℕ, ◌||◌, ◌∷◌, ◌≡◌}
+use Rattle.lq_base.proofs.BesideLemmas.{object_of_name}
 use Rattle.lq_base.specs.Name.{is_named, is_object}
 use Rattle.lq_base.specs.declared.dialect.Dialect.{Dialect}
 use Rattle.lq_base.specs.declared.dialect.Dialect.TheVariants.{Mysql, Postgresql}
 use Rattle.lq_base.specs.declared.reason.Reason.{Reason}
 use Rattle.lq_base.specs.declared.reason.Reason.TheVariants as reason
-use Rattle.lq_model.specs.Catalogue.{Catalogue}
-use Rattle.lq_model.specs.Changes.{AreReturns, AreStatements, AreTold, HaveEffect, TakeBack}
-use Rattle.lq_model.specs.NameSpaces.{is_taken}
-use Rattle.lq_model.specs.Plan.{Plan, decide}
-use Rattle.lq_model.specs.Reasons.{unless}
-use Rattle.lq_model.specs.Reserved.{is_tracking, lock_key}
-use Rattle.lq_model.specs.Sequences.{create_sequence}
-use Rattle.lq_model.specs.Statement.{is_statement}
-use Rattle.lq_model.specs.Step.{run, step}
-use Rattle.lq_model.specs.TakesBack.{DropSequenceTakesBack}
-use Rattle.lq_model.specs.Written.{nth_value}
-use Rattle.lq_model.specs.declared.caller.By.TheVariants.{User}
-use Rattle.lq_model.specs.declared.statement.Statement.{Statement}
-use Rattle.lq_model.specs.declared.statement.Statement.TheVariants.{CreateSequence, DropSequence}
-use Rattle.lq_base.proofs.BesideLemmas.{object_of_name}
 use Rattle.lq_model.proofs.Decide.{refuses_exists, settles}
 use Rattle.lq_model.proofs.Lists.{and_true}
 use Rattle.lq_model.proofs.Sequences.{drop_sequence_after}
 use Rattle.lq_model.proofs.Told.{keys_told, text_told}
+use Rattle.lq_model.specs.Catalogue.{Catalogue}
+use Rattle.lq_model.specs.Changes.{AreReturns, AreStatements, AreTold, HaveEffect, TakeBack}
+use Rattle.lq_model.specs.NameSpaces.{is_taken, is_tracking, lock_key}
+use Rattle.lq_model.specs.Plan.{Plan, decide, unless}
+use Rattle.lq_model.specs.Step.{is_statement, run, step}
+use Rattle.lq_model.specs.TakesBack.{DropSequenceTakesBack, nth_value}
+use Rattle.lq_model.specs.Views.{create_sequence}
+use Rattle.lq_model.specs.declared.caller.By.TheVariants.{User}
+use Rattle.lq_model.specs.declared.statement.Statement.{Statement}
+use Rattle.lq_model.specs.declared.statement.Statement.TheVariants.{CreateSequence, DropSequence}
 use Rattle.lq_samples.specs.NewSequence.{canonical_of, effect, gives, inverse, is_for, is_fresh, rows}
 
 ok_same : {X Y : Type 0} {x y : X} → (let r : Result X Y = Ok x in r) ≡ Ok y → x ≡ y

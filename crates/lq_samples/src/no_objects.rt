@@ -1,6 +1,6 @@
 ghost use Rattle.std.specs.Prelude.{◌≡◌};
 ghost use Rattle.std.specs.Str.{str_eq_ignore_ascii_case};
-ghost use Rattle.lq_model.specs.Reserved.{is_tracking};
+ghost use Rattle.lq_model.specs.NameSpaces.{is_tracking};
 
 use lq_base::{Name, Reason};
 use lq_model::{Answered, AskFault, By, Column, ForeignKey, Index, Key, Look, Query, Unique};

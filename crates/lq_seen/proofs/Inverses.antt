@@ -9,7 +9,7 @@ use Rattle.lq_kinds.specs.declared.any_change.AnyChange.{AnyChange}
 use Rattle.lq_model.proofs.Lists.{all-append_left, all-append_right, and_left}
 use Rattle.lq_model.specs.declared.statement.Statement.{Statement}
 use Rattle.lq_seen.specs.View.{any_meaning}
-use Rattle.lq_turns.specs.Effects.{inverses}
+use Rattle.lq_turns.specs.Set.{inverses}
 
 abbrev pub some : {A : Type 0} → List A → Option (List A)
 some xs = Some xs

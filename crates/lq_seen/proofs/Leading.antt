@@ -8,7 +8,7 @@ use Rattle.lq_base.specs.declared.run.Why.{Why}
 use Rattle.lq_seen.specs.Telling.{Leads, Tells, bounded, happened_as, happened_instead, warned_of}
 use Rattle.lq_seen.specs.declared.outcome.Halt.{Halt}
 use Rattle.lq_seen.specs.declared.outcome.Outcome.{Outcome}
-use Rattle.lq_turns.specs.Contents.{Contents}
+use Rattle.lq_turns.specs.Deed.{Contents}
 use Rattle.lq_turns.specs.Set.{Set}
 use Rattle.lq_turns.specs.Settle.{Settled, and_then, followed, settled_as, warning}
 use Rattle.lq_turns.specs.Turn.{Ending, Finished, Refused}

@@ -2,7 +2,7 @@
 use Rattle.std.proofs.Common.{Bool, List, [], arith, codes, eqb, false, not, refl, take, tests, true, ℕ, ◌&&◌, ◌≡◌, ◌∷◌}
 use Rattle.std.specs.Cmp.Lexicographic.{pointwise}
 use Rattle.std.specs.List.{starts_with}
-use Rattle.lq_base.specs.Text.{is_text}
+use Rattle.lq_base.specs.Name.{is_text}
 use Rattle.lq_model.proofs.Lists.{and_true, named_itself}
 use Rattle.lq_turns.specs.Set.{is_old_form, sum_by_form}
 

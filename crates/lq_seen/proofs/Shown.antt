@@ -6,7 +6,7 @@ use Rattle.lq_base.specs.declared.identity.Identity.{Identity}
 use Rattle.lq_base.specs.declared.run.Printed.{Printed}
 use Rattle.lq_model.specs.StatementText.{text_of}
 use Rattle.lq_model.specs.declared.statement.Statement.{Statement}
-use Rattle.lq_seen.specs.Printing.{shown, with_texts}
+use Rattle.lq_seen.specs.Telling.{shown, with_texts}
 
 shown_both : (prints : Bool) (d : Dialect) (xs ys : List (Identity × List Statement)) → shown prints d (xs ++ ys) ≡ shown prints d xs ++ shown prints d ys
 shown_both true d xs ys = map-append (with_texts d) xs ys

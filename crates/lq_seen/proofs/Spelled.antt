@@ -6,9 +6,9 @@ use Rattle.lq_kinds.specs.AnyChange.{gives, is_for}
 use Rattle.lq_kinds.specs.AnyChangeLaws.{spelled}
 use Rattle.lq_kinds.specs.declared.any_change.AnyChange.{AnyChange}
 use Rattle.lq_model.proofs.Lists.{all-append, and_left, and_right}
-use Rattle.lq_model.specs.Statement.{is_statement}
+use Rattle.lq_model.specs.Step.{is_statement}
 use Rattle.lq_seen.specs.View.{any_meaning}
-use Rattle.lq_turns.specs.Effects.{statements_of}
+use Rattle.lq_turns.specs.Set.{statements_of}
 
 pub statements_spelled : (d : Dialect) (xs : List AnyChange) → list_all (is_for d) xs ≡ true → list_all (is_statement d) (statements_of d any_meaning xs) ≡ true
 statements_spelled d [] all = refl

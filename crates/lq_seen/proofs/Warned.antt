@@ -8,7 +8,7 @@ use Rattle.lq_base.specs.declared.run.Why.{Why}
 use Rattle.lq_seen.proofs.Told.{warned_by}
 use Rattle.lq_seen.specs.Telling.{Leads, WarnsFirst, warned_of}
 use Rattle.lq_seen.specs.declared.outcome.Outcome.{Outcome}
-use Rattle.lq_turns.specs.Contents.{Contents}
+use Rattle.lq_turns.specs.Deed.{Contents}
 use Rattle.lq_turns.specs.Set.{Meaning, Set}
 use Rattle.lq_turns.specs.Settle.{Settled, followed, settled_as, settled_by, unless_stopped, warning}
 use Rattle.lq_turns.specs.Turn.{Ending, Finished, Refused}

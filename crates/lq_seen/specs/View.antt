@@ -1,21 +1,37 @@
--- A changeset and a changelog of changes of any type, as the commands see them.
-use Rattle.std.specs.List.{join_by}
+-- Which changesets a command selects.
+use Rattle.std.specs.List.{join_by, list_all}
 use Rattle.std.specs.Option.{option_or}
-use Rattle.std.specs.Prelude.{List, None, Option, Some, [], codes, map, ℕ, ◌∷◌}
-use Rattle.lq_base.specs.Text.{is_text}
+use Rattle.std.specs.Prelude.{Bool, List, None, Option, Some, [], codes, false, length, map, true, ℕ, ◌&&◌, ◌==◌, ◌||◌, ◌∷◌, ◌≡◌}
+use Rattle.lq_base.specs.Name.{is_text}
 use Rattle.lq_base.specs.declared.dialect.Dialect.{Dialect}
 use Rattle.lq_base.specs.declared.run.OnFail.{OnFail}
 use Rattle.lq_cond.specs.Told.{told as told_by}
 use Rattle.lq_cond.specs.declared.cond.Cond.{Cond}
+use Rattle.lq_expr.specs.Spelled.{holds}
+use Rattle.lq_expr.specs.declared.expr.Expr.{Expr}
 use Rattle.lq_expr.specs.declared.options.Options.{Options}
-use Rattle.lq_kinds.specs.AnyChange.{canonical_of, effect, gives, inverse, is_for, is_fresh}
+use Rattle.lq_kinds.specs.AnyChange.{AreFor, canonical_of, effect, gives, inverse, is_for, is_fresh}
 use Rattle.lq_kinds.specs.declared.any_change.AnyChange.{AnyChange}
 use Rattle.lq_kinds.specs.declared.any_change.AnyChange.TheVariants.{TagDatabase}
 use Rattle.lq_kinds.specs.declared.change_set.ChangeSet.{ChangeSet}
 use Rattle.lq_kinds.specs.declared.change_set.Changelog.{Changelog}
-use Rattle.lq_seen.specs.Selection.{is_selected}
-use Rattle.lq_turns.specs.Promised.{meaning}
-use Rattle.lq_turns.specs.Set.{Changelog as Log, Condition, Meaning, Set, is_old_form, sum_by_form}
+use Rattle.lq_model.specs.Step.{is_statement}
+use Rattle.lq_model.specs.declared.statement.Statement.{Statement}
+use Rattle.lq_turns.specs.Laws.{AreRead}
+use Rattle.lq_turns.specs.Set.{Changelog as Log, Condition, Meaning, Set, is_old_form, meaning, statements_of, sum_by_form}
+use Rattle.lq_turns.specs.declared.deed.OnRows.{OnRows}
+use Rattle.lq_turns.specs.declared.turn.Turn.{Turn}
+
+-- the expression holds for the names; without an expression, and without names, nothing is asked
+abbrev pub is_met : Option Expr → List (List ℕ) → Bool
+is_met None names = true
+is_met (Some e) names = length names == 0 || holds names e
+
+-- it is for the dialect, its context holds for the command's names, and the command's label expression for its labels
+abbrev pub is_selected : Options → ChangeSet → Bool
+is_selected options set = set.here && (is_met set.context options.contexts && is_met options.labels set.labels)
+
+-- A changeset and a changelog of changes of any type, as the commands see them.
 
 -- what changes of any type do
 abbrev pub any_meaning : Meaning AnyChange
@@ -73,3 +89,19 @@ views options xs = map (view options) xs
 
 abbrev pub view_log : Options → Changelog → Log AnyChange
 view_log options g = record { condition = condition_of options.dialect g.cond g.on_fail g.on_error; sets = views options g.sets }
+
+-- For which dialect are what the commands see and what they run.
+
+-- what the commands see of a changelog was read for the dialect that the changelog was read for
+abbrev pub ViewsAreRead : Type 0
+ViewsAreRead = (d : Dialect) (options : Options) (g : Changelog) → AreFor d g → AreRead d any_meaning (view_log options g).sets
+
+-- the statements of changes that were read for a dialect are statements of it
+abbrev pub StatementsAreSpelled : Type 0
+StatementsAreSpelled = (d : Dialect) (xs : List AnyChange) → list_all (is_for d) xs ≡ true → list_all (is_statement d) (statements_of d any_meaning xs) ≡ true
+
+-- Turns of changesets.
+
+-- a turn of the changeset with these statements, and this for its row
+abbrev pub turn_of : ChangeSet → List Statement → Bool → OnRows → Turn
+turn_of x statements in_transaction row = record { identity = x.identity; statements = statements; in_transaction = in_transaction; is_undo = false; row = row }

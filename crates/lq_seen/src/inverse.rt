@@ -1,9 +1,8 @@
 ghost use Rattle.std.specs.List.{list_all};
 ghost use Rattle.std.specs.Prelude.{◌≡◌, IfOk, true};
 ghost use Rattle.lq_expr.specs.declared.options.Options.{Options};
-ghost use Rattle.lq_kinds.specs.AnyChange.{is_for};
-ghost use Rattle.lq_kinds.specs.Dialects.{is_read_for};
-ghost use Rattle.lq_turns.specs.Effects.{inverses, undoing};
+ghost use Rattle.lq_kinds.specs.AnyChange.{is_for, is_read_for};
+ghost use Rattle.lq_turns.specs.Set.{inverses, undoing};
 ghost use Rattle.lq_seen.specs.View.{any_meaning, view};
 
 use crate::turn::statements_of;

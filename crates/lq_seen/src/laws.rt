@@ -1,6 +1,5 @@
 ghost use Rattle.lq_turns.specs.Set.{IsKept};
-ghost use Rattle.lq_seen.specs.Laws.{StatementsAreSpelled, ViewsAreRead};
-ghost use Rattle.lq_seen.specs.View.{any_meaning};
+ghost use Rattle.lq_seen.specs.View.{StatementsAreSpelled, ViewsAreRead, any_meaning};
 
 /// Changes of any type keep what changes promise, so that the laws of turns hold of the changesets.
 pub fn meaning_is_kept()

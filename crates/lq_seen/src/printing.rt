@@ -1,8 +1,8 @@
 ghost use Rattle.std.specs.List.{list_all};
 ghost use Rattle.std.specs.Prelude.{◌≡◌, ◌++◌, ◌∷◌, [], IfOk, OnOk, map, true};
-ghost use Rattle.lq_model.specs.Statement.{is_statement};
+ghost use Rattle.lq_model.specs.Step.{is_statement};
 ghost use Rattle.lq_model.specs.StatementText.{text_of};
-ghost use Rattle.lq_seen.specs.Printing.{with_texts};
+ghost use Rattle.lq_seen.specs.Telling.{with_texts};
 
 use lq_base::{Duplicate, Identity, Items, NoMemory, Printed, Text};
 use lq_model::{SqlText, Statement};

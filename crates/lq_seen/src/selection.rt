@@ -1,5 +1,5 @@
 ghost use Rattle.std.specs.Prelude.{◌≡◌};
-ghost use Rattle.lq_seen.specs.Selection.{is_met, is_selected};
+ghost use Rattle.lq_seen.specs.View.{is_met, is_selected};
 
 use lq_base::Text;
 use lq_expr::{Expr, Options};

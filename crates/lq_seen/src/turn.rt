@@ -3,10 +3,9 @@ ghost use Rattle.std.specs.Prelude.{◌≡◌, ◌≤◌, IfOk, List, true};
 ghost use Rattle.lq_base.specs.declared.tracking.Tracked.{Tracked as Row};
 ghost use Rattle.lq_expr.specs.declared.options.Options.{Options};
 ghost use Rattle.lq_kinds.specs.AnyChange.{is_for};
-ghost use Rattle.lq_turns.specs.Effects.{statements_of};
+ghost use Rattle.lq_turns.specs.Set.{statements_of};
 ghost use Rattle.lq_turns.specs.Settle.{exec_of, fill_turn, greatest, mark_turn, row_turn, run_turn};
-ghost use Rattle.lq_seen.specs.Turns.{turn_of};
-ghost use Rattle.lq_seen.specs.View.{any_meaning, view};
+ghost use Rattle.lq_seen.specs.View.{turn_of, any_meaning, view};
 
 use crate::turn_row::recorded_row;
 use lq_base::{Dialect, Duplicate, Exec, Items, NoMemory};

@@ -1,9 +1,9 @@
 -- An open transaction, and what stands beside the journal.
-use Rattle.std.specs.Prelude.{◌≡◌, List, None, Option, Some, [], ℕ}
+use Rattle.std.specs.Prelude.{List, None, Option, Some, [], ℕ, ◌≡◌}
 use Rattle.lq_base.specs.declared.tracking.Lock.{Lock}
 use Rattle.lq_session.specs.declared.open.Open.{Open}
 use Rattle.lq_store.specs.Executor.{Held}
-use Rattle.lq_store.specs.State.{Transaction}
+use Rattle.lq_store.specs.Journal.{Transaction}
 
 -- a transaction's texts that are not yet committed
 abbrev pub texts_in : Option (List (List ℕ)) → List (List ℕ)

@@ -3,11 +3,10 @@ ghost use Rattle.lq_entries.specs.Log.{IsWhole, MayAppend, UnlessDisk, crashes_i
 ghost use Rattle.lq_journal.specs.State.{dialect_of, disk_of, limit_of};
 ghost use Rattle.lq_model.specs.declared.caller.Room.TheVariants.{Ordinary};
 ghost use Rattle.lq_model.specs.declared.fault.StoreFault.TheVariants.{Busy};
-ghost use Rattle.lq_outside.specs.Count.{Rose};
+ghost use Rattle.lq_outside.specs.Forms.{Rose};
 ghost use Rattle.lq_session.specs.Session.{IsCleared, begun_in, lock_in, side};
-ghost use Rattle.lq_store.specs.Crashes.{LeavesFront};
+ghost use Rattle.lq_store.specs.Journal.{LeavesFront, other_in};
 ghost use Rattle.lq_store.specs.Executor.{forgotten, undone};
-ghost use Rattle.lq_store.specs.State.{other_in};
 
 use crate::open::Open;
 use lq_base::Lock;

@@ -8,7 +8,7 @@ use Rattle.lq_expr.specs.declared.options.Options.{Options}
 use Rattle.lq_kinds.specs.declared.any_change.AnyChange.{AnyChange}
 use Rattle.lq_kinds.specs.declared.change_set.ChangeSet.{ChangeSet}
 use Rattle.lq_model.proofs.Lists.{all-append, all-append_left, all-append_right, and_left, and_true}
-use Rattle.lq_plan.specs.Work.{item_at, work, work_from}
+use Rattle.lq_plan.specs.Told.{item_at, work, work_from}
 use Rattle.lq_plan.specs.declared.turns.Item.{Item}
 use Rattle.lq_sets.specs.SetTurns.{ArePlanned}
 use Rattle.lq_seen.specs.View.{view, views}

@@ -12,13 +12,13 @@ use Rattle.lq_cond.specs.declared.cond.Cond.TheVariants.{And}
 use Rattle.lq_expr.specs.declared.options.Options.{Options}
 use Rattle.lq_kinds.specs.declared.change_set.ChangeSet.{ChangeSet}
 use Rattle.lq_model.specs.Catalogue.{Catalogue, table_of}
-use Rattle.lq_sets.specs.Seen.{is_fill, unasked}
+use Rattle.lq_sets.specs.Counting.{is_fill, unasked}
 use Rattle.lq_seen.specs.View.{condition_of, view}
 use Rattle.lq_track.specs.Database.{Database, has_rows, lock_of, rows_of, users_of}
 use Rattle.lq_track.specs.Lock.{lock_table}
 use Rattle.lq_track.specs.Log.{log_table}
-use Rattle.lq_turns.specs.Contents.{Contents, contents_of}
-use Rattle.lq_turns.specs.Held.{StandsFor}
+use Rattle.lq_turns.specs.Deed.{Contents, contents_of}
+use Rattle.lq_turns.specs.Schedule.{StandsFor}
 use Rattle.lq_turns.specs.Set.{Set}
 use Rattle.lq_turns.specs.Settle.{choice_of, tested}
 use Rattle.lq_turns.specs.declared.choice.What.{What}

@@ -10,14 +10,11 @@ use Rattle.lq_base.specs.declared.run.Why.{Why}
 use Rattle.lq_base.specs.declared.tracking.Tracked.{Tracked}
 use Rattle.lq_expr.specs.declared.options.Options.{Options}
 use Rattle.lq_hand.proofs.Expected.{HoldsAtEnd, turn_expected}
-use Rattle.lq_hand.specs.Counts.{no_progress}
-use Rattle.lq_hand.specs.Enters.{rest_at}
+use Rattle.lq_hand.specs.Way.{no_progress, rest_at, Expects, refusal_at_end, refused_in, seen_along}
 use Rattle.lq_hand.specs.Hand.{calls_left, hand_place, place_of}
-use Rattle.lq_hand.specs.Way.{Expects, refusal_at_end, refused_in, seen_along}
 use Rattle.lq_hand.specs.declared.hand.Hand.{Hand}
-use Rattle.lq_kinds.specs.AnyChange.{is_for}
+use Rattle.lq_kinds.specs.AnyChange.{is_for, is_block_for, is_read_for}
 use Rattle.lq_kinds.specs.AnyChangeLaws.{does, restores, spelled}
-use Rattle.lq_kinds.specs.Dialects.{is_block_for, is_read_for}
 use Rattle.lq_kinds.specs.declared.any_change.AnyChange.{AnyChange}
 use Rattle.lq_kinds.specs.declared.change_set.ChangeSet.{ChangeSet}
 use Rattle.lq_model.proofs.Lists.{and_left}
@@ -37,8 +34,7 @@ use Rattle.lq_seen.proofs.Read.{all_at}
 use Rattle.lq_sets.specs.SetTurns.{ArePlanned, CameBy, CameTo, IsInHand, IsKeptBy, IsOf, KeepsTexts, YieldsAs, YieldsTo, goes_past, if_kept, last_after, set_way, sets_left, texts_by, to_print, to_settle, with_count}
 use Rattle.lq_seen.proofs.Told.{IsToldBy}
 use Rattle.lq_seen.proofs.Warned.{warns_first}
-use Rattle.lq_seen.specs.Printing.{Account, shown, with_texts}
-use Rattle.lq_seen.specs.Telling.{Leads, Reports, bounded, happened_as, happens, warned_of}
+use Rattle.lq_seen.specs.Telling.{Account, shown, with_texts, Leads, Reports, bounded, happened_as, happens, warned_of}
 use Rattle.lq_seen.specs.View.{any_meaning, view, views}
 use Rattle.lq_sets.specs.declared.in_hand.InHand.{InHand}
 use Rattle.lq_seen.specs.declared.outcome.Halt.{Halt}
@@ -49,15 +45,13 @@ use Rattle.lq_sets.specs.declared.set_turns.Tried.TheVariants.{Halted, Lack, Ski
 use Rattle.lq_track.specs.Database.{Database}
 use Rattle.lq_turns.proofs.Entered.{enters}
 use Rattle.lq_turns.proofs.Updates.{run_is}
-use Rattle.lq_turns.specs.Again.{is_twin}
-use Rattle.lq_turns.specs.Contents.{Contents, contents_of}
-use Rattle.lq_turns.specs.Deed.{filled, rows_after}
-use Rattle.lq_turns.specs.Effects.{not_fresh, statements_of}
-use Rattle.lq_turns.specs.Held.{StandsFor}
+use Rattle.lq_turns.specs.Stops.{is_twin}
+use Rattle.lq_turns.specs.Deed.{Contents, contents_of, filled, rows_after}
+use Rattle.lq_turns.specs.Set.{not_fresh, statements_of, IsKept, Set}
+use Rattle.lq_turns.specs.Schedule.{StandsFor}
 use Rattle.lq_turns.specs.Printed.{printed}
 use Rattle.lq_turns.specs.Rest.{Inside, OfSets, Turns, at_turn, between, rest, turns_after}
 use Rattle.lq_turns.specs.Script.{closing, sets_calls, turn_by}
-use Rattle.lq_turns.specs.Set.{IsKept, Set}
 use Rattle.lq_turns.specs.Settle.{Settled, all_settled, choice_of, did_of, greatest, is_halt, run_ending, run_turn, settled_as, settled_by, unless_stopped, what}
 use Rattle.lq_turns.specs.Turn.{Ending, Finished, Refused, ending, turn_calls}
 use Rattle.lq_turns.specs.declared.call.Call.{Call}

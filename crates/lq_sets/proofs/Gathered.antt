@@ -16,7 +16,7 @@ use Rattle.lq_model.proofs.Lists.{and_left, and_right, and_true, any-append, nam
 use Rattle.lq_model.specs.Catalogue.{Catalogue}
 use Rattle.lq_track.specs.Database.{Database}
 use Rattle.lq_turns.specs.Deed.{is_of, theirs}
-use Rattle.lq_sets.specs.Seen.{Added, AreAmong, Gathered, GatheredEach, Suffice, rows_for}
+use Rattle.lq_sets.specs.Counting.{Added, AreAmong, Gathered, GatheredEach, Suffice, rows_for}
 use Rattle.lq_verdicts.specs.Verdict.{all_hold, each_told, map_told, one_holds}
 
 -- rows among rows

@@ -10,7 +10,7 @@ use Rattle.lq_base.specs.declared.reason.Reason.TheVariants.{TooManyRows, TooWid
 use Rattle.lq_base.specs.declared.tracking.Tracked.{Tracked}
 use Rattle.lq_model.proofs.Lists.{or_left, or_right, true_false}
 use Rattle.lq_model.specs.Catalogue.{Catalogue}
-use Rattle.lq_plan.specs.Work.{item_at, work_from}
+use Rattle.lq_plan.specs.Told.{item_at, work_from}
 use Rattle.lq_plan.specs.declared.turns.Item.{Item}
 use Rattle.lq_sets.proofs.Placed.{filled_last, inserted_last, renewed_last}
 use Rattle.lq_sets.specs.SetTurns.{last_after}
@@ -18,9 +18,8 @@ use Rattle.lq_track.specs.Database.{same_identity}
 use Rattle.lq_track.specs.Log.{identity_of}
 use Rattle.lq_turns.proofs.FirstRuns.{tested_by}
 use Rattle.lq_turns.proofs.RowsFound.{filled_apart, inserted_apart, other_way, renewed_apart}
-use Rattle.lq_turns.specs.Again.{is_twin}
-use Rattle.lq_turns.specs.Contents.{Contents}
-use Rattle.lq_turns.specs.Deed.{has_place, others, renewed, rows_after, theirs}
+use Rattle.lq_turns.specs.Stops.{is_twin}
+use Rattle.lq_turns.specs.Deed.{Contents, has_place, others, renewed, rows_after, theirs}
 use Rattle.lq_turns.specs.Script.{turn_by}
 use Rattle.lq_turns.specs.Set.{Meaning, Set, row_at}
 use Rattle.lq_turns.specs.Settle.{choice_of, fill_turn, greatest, mark_turn, recorded, run_turn, what, what_by}

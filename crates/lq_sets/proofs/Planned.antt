@@ -9,12 +9,12 @@ use Rattle.lq_expr.specs.declared.options.Options.{Options}
 use Rattle.lq_kinds.specs.declared.change_set.ChangeSet.{ChangeSet}
 use Rattle.lq_model.proofs.Lists.{or_left, or_right}
 use Rattle.lq_model.specs.declared.statement.Statement.{Statement}
-use Rattle.lq_plan.specs.Work.{item_at, work_from}
+use Rattle.lq_plan.specs.Told.{item_at, work_from}
 use Rattle.lq_plan.specs.declared.turns.Item.{Item}
 use Rattle.lq_sets.specs.SetTurns.{ArePlanned}
 use Rattle.lq_seen.specs.View.{any_meaning, view, views}
-use Rattle.lq_turns.specs.Again.{are_twins, is_twin}
-use Rattle.lq_turns.specs.Contents.{Contents}
+use Rattle.lq_turns.specs.Stops.{are_twins, is_twin}
+use Rattle.lq_turns.specs.Deed.{Contents}
 use Rattle.lq_turns.specs.Printed.{printed, printed_of}
 use Rattle.lq_turns.specs.Script.{calls_of_turn, calls_unless, sets_calls, turn_by}
 use Rattle.lq_turns.specs.Set.{Meaning, Set}

@@ -5,7 +5,7 @@ use Rattle.std.proofs.lemmas.List.{reverse-append}
 use Rattle.std.specs.List.{list_all}
 use Rattle.lq_base.specs.declared.dialect.Dialect.{Dialect}
 use Rattle.lq_base.specs.declared.identity.Identity.{Identity}
-use Rattle.lq_hand.specs.Enters.{Enters, rest_at}
+use Rattle.lq_hand.specs.Way.{Enters, rest_at}
 use Rattle.lq_hand.specs.declared.hand.Hand.{Hand}
 use Rattle.lq_hand.specs.declared.source.Entered.TheVariants as entered
 use Rattle.lq_model.proofs.Lists.{all-append_left, all-append_right, and_left}
@@ -16,14 +16,13 @@ use Rattle.lq_seen.proofs.Leading.{leads_end}
 use Rattle.lq_seen.proofs.Shown.{all_shown}
 use Rattle.lq_sets.proofs.Planned.{none_left, none_printed, none_settled}
 use Rattle.lq_sets.specs.SetTurns.{ArePlanned, CameTo, IsReadFor, Knows, set_way, sets_left}
-use Rattle.lq_seen.specs.Printing.{Account, shown}
-use Rattle.lq_seen.specs.Telling.{Leads, Reports}
+use Rattle.lq_seen.specs.Telling.{Account, shown, Leads, Reports}
 use Rattle.lq_seen.specs.View.{any_meaning}
 use Rattle.lq_sets.specs.declared.set_turns.SetTurns.{SetTurns}
 use Rattle.lq_sets.specs.declared.set_turns.Tried.TheVariants.{Halted, Lack, Skipped, Turn as Tried}
 use Rattle.lq_track.specs.Database.{Database}
-use Rattle.lq_turns.specs.Contents.{contents_of}
-use Rattle.lq_turns.specs.Held.{StandsFor}
+use Rattle.lq_turns.specs.Deed.{contents_of}
+use Rattle.lq_turns.specs.Schedule.{StandsFor}
 use Rattle.lq_turns.specs.Rest.{OfSets, between}
 use Rattle.lq_turns.specs.Script.{closing}
 use Rattle.lq_turns.specs.declared.call.Call.{Call}

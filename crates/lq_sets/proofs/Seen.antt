@@ -20,8 +20,8 @@ use Rattle.lq_cond.specs.declared.cond.Cond.{Cond, fold-Cond}
 use Rattle.lq_cond.specs.declared.condition.Condition.{Condition}
 use Rattle.lq_cond.specs.declared.condition.Condition.TheVariants.{ChangeSetExecuted, ColumnExists, Dbms, ForeignKeyConstraintExists, IndexExists, PrimaryKeyExists, RowCount, SequenceExists, SqlCheck, TableExists, TableIsEmpty, UniqueConstraintExists, ViewExists}
 use Rattle.lq_model.specs.Catalogue.{Catalogue, Table, table_of}
-use Rattle.lq_model.specs.Query.{answer}
-use Rattle.lq_model.specs.Reserved.{is_tracking}
+use Rattle.lq_model.specs.Views.{answer}
+use Rattle.lq_model.specs.NameSpaces.{is_tracking}
 use Rattle.lq_model.specs.declared.caller.By.TheVariants.{User}
 use Rattle.lq_model.specs.declared.column.Column.{Column}
 use Rattle.lq_model.specs.declared.constraint.ForeignKey.{ForeignKey}
@@ -29,7 +29,7 @@ use Rattle.lq_model.specs.declared.constraint.Key.{Key}
 use Rattle.lq_model.specs.declared.constraint.Unique.{Unique}
 use Rattle.lq_model.specs.declared.index.Index.{Index}
 use Rattle.lq_model.specs.declared.query.Query.{Query}
-use Rattle.lq_sets.specs.Seen.{ConditionsSee, Suffice}
+use Rattle.lq_sets.specs.Counting.{ConditionsSee, Suffice}
 use Rattle.lq_track.specs.Database.{Database}
 use Rattle.lq_verdicts.specs.Verdict.{map_told}
 

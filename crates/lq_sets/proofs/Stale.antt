@@ -18,7 +18,7 @@ use Rattle.lq_model.proofs.Decide.{accepted}
 use Rattle.lq_model.proofs.Effects.{ran_both, ran_first, run_keeps}
 use Rattle.lq_model.proofs.Lists.{and_left, and_right, or_left}
 use Rattle.lq_model.specs.Catalogue.{Catalogue}
-use Rattle.lq_model.specs.Reserved.{is_tracking}
+use Rattle.lq_model.specs.NameSpaces.{is_tracking}
 use Rattle.lq_model.specs.Sound.{IsSound}
 use Rattle.lq_model.specs.Step.{plan, run, step}
 use Rattle.lq_model.specs.declared.caller.By.TheVariants.{User}
@@ -31,9 +31,9 @@ use Rattle.lq_sets.specs.Counting.{AreAlike, HasLooked, after_first, begins_at, 
 use Rattle.lq_sets.specs.declared.in_hand.InHand.{InHand}
 use Rattle.lq_track.specs.Database.{Database}
 use Rattle.lq_turns.proofs.Effects.{ok_same}
-use Rattle.lq_turns.specs.Contents.{Contents}
-use Rattle.lq_turns.specs.Effects.{not_fresh, statements_of}
-use Rattle.lq_turns.specs.Held.{StandsFor}
+use Rattle.lq_turns.specs.Deed.{Contents}
+use Rattle.lq_turns.specs.Set.{not_fresh, statements_of}
+use Rattle.lq_turns.specs.Schedule.{StandsFor}
 use Rattle.lq_turns.specs.Turn.{Course, Ending, Finished, Refused, Stuck, Through, course, ending, is_marked, kept, led_by, refused, row_ending}
 use Rattle.lq_turns.specs.declared.stop.Refusal.{Refusal}
 use Rattle.lq_turns.specs.declared.turn.Turn.{Turn}

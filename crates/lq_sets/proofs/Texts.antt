@@ -10,14 +10,13 @@ use Rattle.lq_base.specs.declared.run.Why.{Why}
 use Rattle.lq_kinds.specs.AnyChange.{is_for}
 use Rattle.lq_kinds.specs.declared.any_change.AnyChange.{AnyChange}
 use Rattle.lq_model.specs.declared.statement.Statement.{Statement}
-use Rattle.lq_seen.specs.Printing.{shown, with_texts}
+use Rattle.lq_seen.specs.Telling.{shown, with_texts}
 use Rattle.lq_seen.specs.View.{any_meaning}
 use Rattle.lq_sets.specs.Counting.{changes_run, runs}
 use Rattle.lq_sets.specs.SetTurns.{if_kept}
-use Rattle.lq_turns.specs.Contents.{Contents}
-use Rattle.lq_turns.specs.Effects.{statements_of}
+use Rattle.lq_turns.specs.Deed.{Contents}
+use Rattle.lq_turns.specs.Set.{statements_of, Set}
 use Rattle.lq_turns.specs.Printed.{is_run, printed, printed_of}
-use Rattle.lq_turns.specs.Set.{Set}
 use Rattle.lq_turns.specs.Settle.{Settled, did_of, happens, settled_as, warning}
 use Rattle.lq_turns.specs.Turn.{Refused}
 use Rattle.lq_turns.specs.declared.choice.Choice.{Choice}

@@ -9,18 +9,18 @@ use Rattle.lq_base.specs.declared.tracking.Exec.{Exec}
 use Rattle.lq_base.specs.declared.tracking.Exec.TheVariants as exec
 use Rattle.lq_base.specs.declared.tracking.Tracked.{Tracked}
 use Rattle.lq_expr.specs.declared.options.Options.{Options}
-use Rattle.lq_hand.specs.Writable.{IsWritable}
+use Rattle.lq_hand.specs.Hand.{IsWritable}
 use Rattle.lq_kinds.specs.AnyChange.{is_for}
 use Rattle.lq_kinds.specs.declared.change_set.ChangeSet.{ChangeSet}
 use Rattle.lq_model.proofs.Lists.{and_right}
-use Rattle.lq_model.specs.Statement.{is_statement}
+use Rattle.lq_model.specs.Step.{is_statement}
 use Rattle.lq_model.specs.declared.statement.Statement.{Statement}
 use Rattle.lq_seen.proofs.Spelled.{statements_spelled}
-use Rattle.lq_seen.specs.Printing.{with_texts}
+use Rattle.lq_seen.specs.Telling.{with_texts}
 use Rattle.lq_seen.specs.View.{any_meaning, view}
 use Rattle.lq_sets.specs.Counting.{runs}
 use Rattle.lq_sets.specs.SetTurns.{texts_by}
-use Rattle.lq_turns.specs.Effects.{statements_of}
+use Rattle.lq_turns.specs.Set.{statements_of}
 use Rattle.lq_turns.specs.Script.{turn_by}
 use Rattle.lq_turns.specs.Settle.{exec_of, fill_turn, greatest, mark_turn, record_in, row_for, run_turn}
 use Rattle.lq_turns.specs.declared.choice.Choice.{Choice}

@@ -12,14 +12,13 @@ use Rattle.lq_seen.proofs.Leading.{bounded_right, leads_same, plus_none}
 use Rattle.lq_sets.proofs.Stale.{first_alike}
 use Rattle.lq_sets.specs.Counting.{AreAlike, HasLooked, after_first, changes_before, counted_in, counts_to, stale_in}
 use Rattle.lq_sets.specs.SetTurns.{ArePlanned, Awaits, Knows, YieldsAs, YieldsTo, if_kept, set_way, sets_left, to_print, to_settle, with_count}
-use Rattle.lq_seen.specs.Printing.{Account}
-use Rattle.lq_seen.specs.Telling.{IsTakenBack, Leads, Reports, bounded, happened_instead, happens, stopped_instead}
+use Rattle.lq_seen.specs.Telling.{Account, IsTakenBack, Leads, Reports, bounded, happened_instead, happens, stopped_instead}
 use Rattle.lq_sets.specs.declared.in_hand.InHand.{InHand}
 use Rattle.lq_seen.specs.declared.outcome.Outcome.{Outcome}
 use Rattle.lq_sets.specs.declared.set_turns.SetTurns.{SetTurns}
 use Rattle.lq_track.specs.Database.{Database}
-use Rattle.lq_turns.specs.Contents.{Contents}
-use Rattle.lq_turns.specs.Held.{StandsFor}
+use Rattle.lq_turns.specs.Deed.{Contents}
+use Rattle.lq_turns.specs.Schedule.{StandsFor}
 use Rattle.lq_turns.specs.declared.choice.Choice.{Choice}
 use Rattle.lq_turns.specs.declared.stamp.Stamp.{Stamp}
 use Rattle.lq_turns.specs.declared.stop.Refusal.{Refusal}

@@ -1,4 +1,3 @@
 -- The turns of a changelog.
 pub mod Counting
-pub mod Seen
 pub mod SetTurns

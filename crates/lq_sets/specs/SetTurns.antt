@@ -1,25 +1,22 @@
 -- The turns of an update as they are planned on the rows, and how the next of them comes.
 use Rattle.std.specs.List.{list_all}
-use Rattle.std.specs.Prelude.{Bool, List, None, Option, Some, [], drop, false, if◌then◌else◌, length, nat_lt, not, reverse, true, ℕ, ◌&&◌, ◌+◌, ◌++◌, ◌∷◌, ◌≡◌, ◌≤◌}
+use Rattle.std.specs.Prelude.{Bool, List, None, Option, Some, [], drop, false, if◌then◌else◌, length, nat_lt, not, reverse, true, ℕ, ◌&&◌, ◌++◌, ◌+◌, ◌∷◌, ◌≡◌, ◌≤◌}
 use Rattle.lq_base.specs.declared.dialect.Dialect.{Dialect}
 use Rattle.lq_base.specs.declared.identity.Identity.{Identity}
 use Rattle.lq_base.specs.declared.run.Happened.{Happened}
 use Rattle.lq_base.specs.declared.run.Printed.{Printed}
 use Rattle.lq_base.specs.declared.tracking.Tracked.{Tracked}
 use Rattle.lq_expr.specs.declared.options.Options.{Options}
-use Rattle.lq_hand.specs.Counts.{no_progress}
-use Rattle.lq_hand.specs.Enters.{IsTurn, rest_at}
 use Rattle.lq_hand.specs.Hand.{calls_left, place_of}
-use Rattle.lq_hand.specs.Way.{Expects, Way, refusal_at_end, refused_in}
+use Rattle.lq_hand.specs.Way.{Expects, IsTurn, Way, no_progress, refusal_at_end, refused_in, rest_at}
 use Rattle.lq_hand.specs.declared.hand.Hand.{Hand}
-use Rattle.lq_kinds.specs.Dialects.{AreFor}
+use Rattle.lq_kinds.specs.AnyChange.{AreFor}
 use Rattle.lq_kinds.specs.declared.any_change.AnyChange.{AnyChange}
 use Rattle.lq_kinds.specs.declared.change_set.ChangeSet.{ChangeSet}
 use Rattle.lq_model.specs.Catalogue.{Catalogue}
-use Rattle.lq_plan.specs.Work.{work_from}
+use Rattle.lq_plan.specs.Told.{work_from}
 use Rattle.lq_plan.specs.declared.turns.Item.{Item}
-use Rattle.lq_seen.specs.Printing.{Account, shown, with_texts}
-use Rattle.lq_seen.specs.Telling.{Leads, Reports, Tells, WarnsFirst, bounded, happened_instead, happens}
+use Rattle.lq_seen.specs.Telling.{Account, Leads, Reports, Tells, WarnsFirst, bounded, happened_instead, happens, shown, with_texts}
 use Rattle.lq_seen.specs.View.{any_meaning, view, views}
 use Rattle.lq_sets.specs.Counting.{AreAlike, begins_from, changes_before, changes_run, counts_to, runs}
 use Rattle.lq_sets.specs.declared.in_hand.InHand.{InHand}
@@ -27,15 +24,14 @@ use Rattle.lq_sets.specs.declared.set_turns.SetTurns.{SetTurns}
 use Rattle.lq_sets.specs.declared.set_turns.Tried.{Tried}
 use Rattle.lq_sets.specs.declared.set_turns.Tried.TheVariants.{Halted, Lack, Skipped, Turn as Entered}
 use Rattle.lq_track.specs.Database.{Database}
-use Rattle.lq_turns.specs.Again.{are_twins}
-use Rattle.lq_turns.specs.Contents.{Contents, contents_of}
-use Rattle.lq_turns.specs.Effects.{statements_of}
-use Rattle.lq_turns.specs.Held.{StandsFor}
+use Rattle.lq_turns.specs.Deed.{Contents, contents_of}
 use Rattle.lq_turns.specs.Printed.{printed}
 use Rattle.lq_turns.specs.Rest.{OfSets, between}
+use Rattle.lq_turns.specs.Schedule.{StandsFor}
 use Rattle.lq_turns.specs.Script.{closing, turn_by}
-use Rattle.lq_turns.specs.Set.{Set}
+use Rattle.lq_turns.specs.Set.{Set, statements_of}
 use Rattle.lq_turns.specs.Settle.{Settled, all_settled, greatest, is_halt}
+use Rattle.lq_turns.specs.Stops.{are_twins}
 use Rattle.lq_turns.specs.Turn.{ending, turn_calls}
 use Rattle.lq_turns.specs.declared.choice.Choice.{Choice}
 use Rattle.lq_turns.specs.declared.choice.Choice.TheVariants.{Fills, Halts, Marks, Passes, Runs, Skips}

@@ -2,11 +2,11 @@ ghost use Rattle.std.specs.Prelude.{◌≡◌, Bool, IfOk, Result, Some, false};
 ghost use Rattle.lq_base.specs.declared.reason.Reason.{Reason};
 ghost use Rattle.lq_cond.specs.declared.cond.Cond.{Cond};
 ghost use Rattle.lq_expr.specs.declared.options.Options.{Options};
-ghost use Rattle.lq_sets.specs.Seen.{IsSeen, Suffice, is_fill};
+ghost use Rattle.lq_sets.specs.Counting.{IsSeen, Suffice, is_fill};
 ghost use Rattle.lq_seen.specs.View.{condition_of, view, view_log};
 ghost use Rattle.lq_track.specs.Database.{Database};
-ghost use Rattle.lq_turns.specs.Contents.{contents_of};
-ghost use Rattle.lq_turns.specs.Held.{StandsFor};
+ghost use Rattle.lq_turns.specs.Deed.{contents_of};
+ghost use Rattle.lq_turns.specs.Schedule.{StandsFor};
 ghost use Rattle.lq_turns.specs.Settle.{choice_of, own_choice, reacted, tested};
 ghost use Rattle.lq_verdicts.specs.Verdict.{IsTold};
 

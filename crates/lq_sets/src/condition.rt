@@ -1,6 +1,6 @@
 ghost use Rattle.lq_cond.specs.Told.{told};
 ghost use Rattle.lq_track.specs.Database.{Database};
-ghost use Rattle.lq_turns.specs.Held.{StandsFor};
+ghost use Rattle.lq_turns.specs.Schedule.{StandsFor};
 ghost use Rattle.lq_verdicts.specs.Verdict.{IsTold};
 
 use lq_base::{Dialect, Tracked};

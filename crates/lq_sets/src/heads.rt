@@ -1,6 +1,5 @@
 ghost use Rattle.std.specs.Prelude.{◌≡◌, IfOk, map};
-ghost use Rattle.lq_plan.specs.Head.{headed};
-ghost use Rattle.lq_plan.specs.Told.{bare};
+ghost use Rattle.lq_plan.specs.Told.{headed, bare};
 ghost use Rattle.lq_seen.specs.View.{view, views};
 
 use lq_base::{Items, NoMemory};

@@ -1,7 +1,7 @@
 ghost use Rattle.std.specs.Prelude.{◌≡◌, IfOk};
-ghost use Rattle.lq_plan.specs.Work.{work};
+ghost use Rattle.lq_plan.specs.Told.{work};
 ghost use Rattle.lq_turns.specs.Faults.{faults};
-ghost use Rattle.lq_turns.specs.Pending.{pending};
+ghost use Rattle.lq_turns.specs.Printed.{pending};
 ghost use Rattle.lq_seen.specs.View.{view_log};
 
 use crate::heads::heads_of;

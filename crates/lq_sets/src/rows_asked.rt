@@ -1,9 +1,9 @@
 ghost use Rattle.std.specs.Prelude.{◌≡◌, ◌++◌, IfOk, OnOk};
 ghost use Rattle.lq_base.specs.declared.dialect.Dialect.{Dialect};
-ghost use Rattle.lq_sets.specs.Seen.{Gathered, GatheredEach, Suffice, rows_for};
+ghost use Rattle.lq_sets.specs.Counting.{Gathered, GatheredEach, Suffice, rows_for};
 ghost use Rattle.lq_track.specs.Database.{Database};
 ghost use Rattle.lq_turns.specs.Deed.{theirs};
-ghost use Rattle.lq_turns.specs.Held.{StandsFor};
+ghost use Rattle.lq_turns.specs.Schedule.{StandsFor};
 
 use lq_base::{Items, NoMemory, Text, Tracked};
 use lq_cond::{Cond, Condition};

@@ -1,11 +1,11 @@
 ghost use Rattle.std.specs.Prelude.{◌≡◌, [], IfOk, Some, true};
 ghost use Rattle.lq_cond.specs.declared.cond.Cond.TheVariants.{And};
 ghost use Rattle.lq_expr.specs.declared.options.Options.{Options};
-ghost use Rattle.lq_sets.specs.Seen.{unasked};
+ghost use Rattle.lq_sets.specs.Counting.{unasked};
 ghost use Rattle.lq_seen.specs.View.{view};
 ghost use Rattle.lq_track.specs.Database.{Database};
-ghost use Rattle.lq_turns.specs.Contents.{contents_of};
-ghost use Rattle.lq_turns.specs.Held.{StandsFor};
+ghost use Rattle.lq_turns.specs.Deed.{contents_of};
+ghost use Rattle.lq_turns.specs.Schedule.{StandsFor};
 ghost use Rattle.lq_turns.specs.Settle.{choice_of};
 
 use crate::choosing::choice;

@@ -2,19 +2,17 @@ ghost use Rattle.std.specs.List.{list_all};
 ghost use Rattle.std.specs.Prelude.{◌≡◌, ◌≤◌, ◌<◌, ◌+◌, ◌++◌, [], IfOk, List, None, OnErr, length, reverse, true};
 ghost use Rattle.lq_base.specs.declared.run.Printed.{Printed as Shown};
 ghost use Rattle.lq_expr.specs.declared.options.Options.{Options as Given};
-ghost use Rattle.lq_kinds.specs.AnyChange.{is_for};
-ghost use Rattle.lq_kinds.specs.Dialects.{AreFor};
-ghost use Rattle.lq_plan.specs.Work.{work};
+ghost use Rattle.lq_kinds.specs.AnyChange.{is_for, AreFor};
+ghost use Rattle.lq_plan.specs.Told.{work};
 ghost use Rattle.lq_sets.specs.Counting.{HasLooked, changes_before, counted_in};
 ghost use Rattle.lq_sets.specs.SetTurns.{CameBy, CameTo, IsKeptBy, IsReadFor, KeepsTexts, Knows, has_turn, if_kept, sets_left};
-ghost use Rattle.lq_seen.specs.Printing.{of_sets};
-ghost use Rattle.lq_seen.specs.Telling.{told_by};
+ghost use Rattle.lq_seen.specs.Telling.{of_sets, told_by};
 ghost use Rattle.lq_seen.specs.View.{view, view_log};
 ghost use Rattle.lq_track.specs.Database.{Database};
 ghost use Rattle.lq_base.specs.declared.dialect.Dialect.{Dialect as Spoken};
-ghost use Rattle.lq_turns.specs.Contents.{Contents, contents_of};
+ghost use Rattle.lq_turns.specs.Deed.{Contents, contents_of};
 ghost use Rattle.lq_turns.specs.Faults.{faults};
-ghost use Rattle.lq_turns.specs.Held.{StandsFor};
+ghost use Rattle.lq_turns.specs.Schedule.{StandsFor};
 ghost use Rattle.lq_turns.specs.Settle.{choice_of, greatest};
 ghost use Rattle.lq_turns.specs.declared.stamp.Stamp.{Stamp as Clocked};
 
@@ -336,7 +334,7 @@ fn look_at<K: Look>(
 impl Source for SetTurns {
     ghost use Rattle.lq_kinds.specs.declared.any_change.AnyChange.{AnyChange};
     ghost use Rattle.lq_sets.specs.SetTurns.{IsReadFor, set_way, sets_left};
-    ghost use Rattle.lq_seen.specs.Printing.{Account};
+    ghost use Rattle.lq_seen.specs.Telling.{Account};
     ghost use Rattle.lq_seen.specs.View.{any_meaning};
     ghost use Rattle.lq_turns.specs.Rest.{OfSets};
 

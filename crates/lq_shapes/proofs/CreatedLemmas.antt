@@ -3,19 +3,17 @@ use Rattle.std.proofs.Common.{Bool, List, ap, cond, false, map, refl, sym, ◌++
 use Rattle.std.specs.List.{list_any}
 use Rattle.std.specs.Prelude.{None, Option, Some}
 use Rattle.lq_base.specs.declared.name.Name.{Name}
-use Rattle.lq_model.specs.CreateTable.{key_column}
-use Rattle.lq_model.specs.Names.{is_in}
-use Rattle.lq_model.specs.TableNames.{column_lists, key_list, target_lists}
+use Rattle.lq_model.specs.Tables.{key_column}
+use Rattle.lq_model.specs.Catalogue.{is_in, column_lists, key_list, target_lists}
 use Rattle.lq_model.specs.declared.column.Column.{Column}
 use Rattle.lq_model.specs.declared.constraint.ForeignKey.{ForeignKey}
 use Rattle.lq_model.specs.declared.constraint.Key.{Key}
 use Rattle.lq_model.specs.declared.constraint.Unique.{Unique}
 use Rattle.lq_model.proofs.Lists.{any-append, any-map, append-nil}
-use Rattle.lq_shapes.specs.Created.{IsKeyed, key_columns, made}
-use Rattle.lq_shapes.specs.Stated.{IsColumn}
+use Rattle.lq_shapes.specs.Created.{IsKeyed, key_columns, made, IsColumn}
 use Rattle.lq_shapes.specs.declared.stated.NewColumn.{NewColumn}
 use Rattle.lq_shapes.proofs.ShownLemmas.{or_false}
-use Rattle.lq_model.specs.Literals.{column_of}
+use Rattle.lq_model.specs.Kinds.{column_of}
 use Rattle.lq_model.specs.declared.column.ColumnDef.{ColumnDef}
 
 -- the columns of the key are NOT NULL

@@ -8,10 +8,10 @@ use Rattle.lq_base.specs.Name.{is_named}
 use Rattle.lq_base.specs.declared.kind.Kind.{Kind}
 use Rattle.lq_base.specs.declared.name.Name.{Name}
 use Rattle.lq_model.specs.Kinds.{kind_of}
-use Rattle.lq_model.specs.Names.{is_in}
+use Rattle.lq_model.specs.Catalogue.{is_in}
 use Rattle.lq_model.specs.declared.column.Column.{Column}
 use Rattle.lq_model.proofs.Lists.{same_name, whether}
-use Rattle.lq_shapes.specs.Shown.{KeepsFirst, ShowsKinds, first_of, kind_at}
+use Rattle.lq_shapes.specs.Created.{KeepsFirst, ShowsKinds, first_of, kind_at}
 use Rattle.lq_shapes.proofs.ShownLemmas.{either_way, str_cmp}
 
 -- a column that has a kind is there

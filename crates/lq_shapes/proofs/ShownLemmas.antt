@@ -7,9 +7,9 @@ use Rattle.std.specs.declared.cmp.Ordering.{Ordering}
 use denote.Ref.{Bor}
 use Rattle.lq_base.specs.Name.{is_named, name_cmp}
 use Rattle.lq_base.specs.declared.name.Name.{Name}
-use Rattle.lq_model.specs.Names.{is_in, repeats}
+use Rattle.lq_model.specs.Catalogue.{is_in, repeats}
 use Rattle.lq_model.proofs.Lists.{any-append, other_way, same_name, whether}
-use Rattle.lq_shapes.specs.Shown.{Grows, ShowsNames, has_name}
+use Rattle.lq_shapes.specs.Created.{Grows, ShowsNames, has_name}
 
 abbrev pub str_cmp : Bor Name → Bor Name → Ordering
 str_cmp x y = name_cmp x.now y.now

@@ -9,9 +9,9 @@ use Rattle.lq_base.specs.declared.literal.Literal.TheVariants as literal
 use Rattle.lq_base.specs.declared.value.Value.TheVariants as value
 use Rattle.lq_base.specs.declared.name.Name.{Name}
 use Rattle.lq_base.specs.declared.value.Value.{Value}
-use Rattle.lq_model.specs.Literals.{is_wide, is_wrong}
+use Rattle.lq_model.specs.Kinds.{is_wide, is_wrong}
 use Rattle.lq_model.specs.declared.column.ColumnDef.{ColumnDef}
-use Rattle.lq_shapes.specs.Stated.{IsColumn, IsStated}
+use Rattle.lq_shapes.specs.Created.{IsColumn, IsStated}
 use Rattle.lq_shapes.specs.declared.stated.NewColumn.{NewColumn}
 use Rattle.lq_shapes.specs.declared.stated.Stated.{Stated}
 

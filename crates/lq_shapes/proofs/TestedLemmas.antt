@@ -1,7 +1,7 @@
 -- The names in the tests that have parts.
 use Rattle.std.proofs.Common.{◌||◌, ◌≡◌, refl}
 use Rattle.lq_base.specs.declared.name.Name.{Name}
-use Rattle.lq_model.specs.Names.{is_in}
+use Rattle.lq_model.specs.Catalogue.{is_in}
 use Rattle.lq_model.specs.Truth.{operand_names, test_names}
 use Rattle.lq_model.specs.declared.test.Op.{Op}
 use Rattle.lq_model.specs.declared.test.Operand.{Operand}

@@ -1,3 +1,1 @@
 pub mod Created
-pub mod Shown
-pub mod Stated

@@ -2,9 +2,9 @@ ghost use Rattle.std.specs.Prelude.{◌≡◌, [], IfOk, OnOk, Option, map};
 ghost use Rattle.lq_base.specs.declared.kind.Kind.{Kind};
 ghost use Rattle.lq_base.specs.declared.name.Name.{Name};
 ghost use Rattle.lq_model.specs.Kinds.{kind_of, same_kinds};
-ghost use Rattle.lq_model.specs.Names.{is_in};
-ghost use Rattle.lq_model.specs.Query.{lacks_column};
-ghost use Rattle.lq_shapes.specs.Shown.{KeepsFirst, ShowsKinds};
+ghost use Rattle.lq_model.specs.Catalogue.{is_in};
+ghost use Rattle.lq_model.specs.Views.{lacks_column};
+ghost use Rattle.lq_shapes.specs.Created.{KeepsFirst, ShowsKinds};
 
 use crate::kinds::same_kind;
 use lq_base::{Kind, Name, NoMemory};
@@ -28,7 +28,7 @@ impl<'a> Model for Columns<'a> {
 
     ghost view = { λ it. it.columns.now };
 
-    ghost use Rattle.lq_shapes.specs.Shown.{ShowsKinds};
+    ghost use Rattle.lq_shapes.specs.Created.{ShowsKinds};
 
     ghost invariant = { λ it. ShowsKinds it.columns.now it.kinds };
 }

@@ -1,7 +1,7 @@
 ghost use Rattle.std.specs.List.{filter, list_any};
 ghost use Rattle.std.specs.Prelude.{◌≡◌, ◌∷◌, [], length};
-ghost use Rattle.lq_model.specs.CreateTable.{depends_in, numbers_wrongly, repeats_number};
-ghost use Rattle.lq_model.specs.Names.{same_names};
+ghost use Rattle.lq_model.specs.Tables.{depends_in, numbers_wrongly, repeats_number};
+ghost use Rattle.lq_model.specs.Catalogue.{same_names};
 ghost use Rattle.lq_model.specs.Sound.{is_key_of};
 
 use crate::kinds::is_number;

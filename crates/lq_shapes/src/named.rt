@@ -1,5 +1,5 @@
 ghost use Rattle.std.specs.Prelude.{◌≡◌, OnOk, ◌++◌, map};
-ghost use Rattle.lq_model.specs.TableNames.{key_list};
+ghost use Rattle.lq_model.specs.Catalogue.{key_list};
 
 use lq_base::{Items, Name, NoMemory};
 use lq_model::{Column, ForeignKey, Key, Unique};

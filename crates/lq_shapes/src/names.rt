@@ -1,6 +1,6 @@
 ghost use Rattle.std.specs.Prelude.{◌≡◌, IfOk, OnOk, map};
-ghost use Rattle.lq_model.specs.Names.{is_in, repeats};
-ghost use Rattle.lq_shapes.specs.Shown.{Grows, ShowsNames, has_name};
+ghost use Rattle.lq_model.specs.Catalogue.{is_in, repeats};
+ghost use Rattle.lq_shapes.specs.Created.{Grows, ShowsNames, has_name};
 
 use crate::named::push_names;
 use lq_base::{Items, Name, NoMemory};
@@ -23,7 +23,7 @@ impl<'a> Model for Names<'a> {
 
     ghost view = { λ it. map (λ n. n.now) it.names };
 
-    ghost use Rattle.lq_shapes.specs.Shown.{ShowsNames};
+    ghost use Rattle.lq_shapes.specs.Created.{ShowsNames};
 
     ghost invariant = { λ it. ShowsNames (map (λ n. n.now) it.names) it.keys };
 }

@@ -1,5 +1,5 @@
 ghost use Rattle.std.specs.Prelude.{◌≡◌, IfOk, cond, false};
-ghost use Rattle.lq_model.specs.Names.{is_in};
+ghost use Rattle.lq_model.specs.Catalogue.{is_in};
 ghost use Rattle.lq_shapes.specs.Created.{IsDefined, IsKeyed, key_columns, shape_with};
 
 use crate::named::push_names;

@@ -1,9 +1,8 @@
 ghost use Rattle.std.specs.List.{list_any};
 ghost use Rattle.std.specs.Prelude.{◌≡◌, ◌||◌, IfOk, map};
-ghost use Rattle.lq_model.specs.CreateTable.{lacks_own, lists_twice};
-ghost use Rattle.lq_model.specs.Names.{repeats};
-ghost use Rattle.lq_model.specs.Query.{lacks_column};
-ghost use Rattle.lq_model.specs.TableNames.{key_list};
+ghost use Rattle.lq_model.specs.Tables.{lacks_own, lists_twice};
+ghost use Rattle.lq_model.specs.Catalogue.{repeats, key_list};
+ghost use Rattle.lq_model.specs.Views.{lacks_column};
 ghost use Rattle.lq_shapes.specs.Created.{made};
 
 use crate::columns::Columns;

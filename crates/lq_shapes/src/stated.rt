@@ -1,7 +1,7 @@
 ghost use Rattle.std.specs.Prelude.{◌≡◌, IfOk};
 ghost use Rattle.lq_base.specs.Value.{into_kind};
-ghost use Rattle.lq_model.specs.Literals.{is_wide, is_wrong, literal_of, value_in};
-ghost use Rattle.lq_shapes.specs.Stated.{IsColumn, IsStated};
+ghost use Rattle.lq_model.specs.Kinds.{is_wide, is_wrong, literal_of, value_in};
+ghost use Rattle.lq_shapes.specs.Created.{IsColumn, IsStated};
 
 use lq_base::{Duplicate, IntoFault, Kind, Literal, NoMemory, Value, into_kind};
 use lq_model::{Column, ColumnDef};

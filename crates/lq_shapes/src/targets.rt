@@ -1,5 +1,5 @@
 ghost use Rattle.std.specs.Prelude.{◌≡◌};
-ghost use Rattle.lq_model.specs.Needs.{targets_table};
+ghost use Rattle.lq_model.specs.Tables.{targets_table};
 
 use lq_base::Name;
 use lq_rows::Held;

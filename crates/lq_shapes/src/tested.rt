@@ -1,6 +1,6 @@
 ghost use Rattle.std.specs.Prelude.{◌≡◌, ◌&&◌, ◌||◌};
 ghost use Rattle.lq_base.specs.Name.{is_named};
-ghost use Rattle.lq_model.specs.Names.{is_in};
+ghost use Rattle.lq_model.specs.Catalogue.{is_in};
 ghost use Rattle.lq_model.specs.Truth.{names_in, operand_names, test_names};
 
 use lq_base::Name;

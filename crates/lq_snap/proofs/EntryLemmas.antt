@@ -7,9 +7,8 @@ use Rattle.lq_model.specs.Catalogue.{Catalogue, Sequence, Table, View}
 use Rattle.lq_parts.specs.Steps.{Entries, tables_of}
 use Rattle.lq_rows.specs.Stored.{Stored}
 use Rattle.lq_codec.specs.Codec.{both, counted, write_each}
-use Rattle.lq_codec.specs.Database.{bytes_of, can_be_written, catalogue_codec, sequence_codec, view_codec}
-use Rattle.lq_codec.specs.Limits.{OnTrue, free, if_both}
-use Rattle.lq_codec.specs.Tables.{table_codec}
+use Rattle.lq_codec.specs.Tables.{bytes_of, can_be_written, catalogue_codec, sequence_codec, view_codec, table_codec}
+use Rattle.lq_codec.specs.State.{OnTrue, free, if_both}
 use Rattle.lq_codec.specs.Words.{count, name}
 use Rattle.lq_coded.proofs.Each as each
 use Rattle.lq_codec.proofs.Laws.{both_true}

@@ -3,9 +3,8 @@ use Rattle.std.proofs.Common.{◌≡◌, ℕ, Bool, true, false, List, [], Optio
 use Rattle.lq_base.specs.declared.dialect.Dialect.{Dialect}
 use Rattle.lq_model.specs.Catalogue.{Catalogue}
 use Rattle.lq_model.specs.Sound.{IsSound}
-use Rattle.lq_codec.specs.Database.{catalogue_of}
-use Rattle.lq_codec.specs.Sound.{is_sound}
-use Rattle.lq_codec.specs.State.{if_sound, state_of}
+use Rattle.lq_codec.specs.Tables.{catalogue_of}
+use Rattle.lq_codec.specs.State.{is_sound, if_sound, state_of}
 use Rattle.lq_engine.specs.State.{State, state}
 use Rattle.lq_store.specs.Executor.{Held, forgotten, holding}
 use Rattle.laws_codec.proofs.Read.{is_tested}

@@ -8,23 +8,16 @@ use Rattle.lq_base.specs.Value.{is_value_of}
 use Rattle.lq_base.specs.declared.dialect.Dialect.{Dialect}
 use Rattle.lq_base.specs.declared.name.Name.{Name}
 use Rattle.lq_base.specs.declared.value.Value.{Value}
-use Rattle.lq_model.specs.Catalogue.{Catalogue, Table, View, table_of, the_table}
-use Rattle.lq_model.specs.Comparison.{compares_wrongly}
-use Rattle.lq_model.specs.Names.{is_empty, is_in, repeats, same_names}
-use Rattle.lq_model.specs.ResultTests.{is_full}
-use Rattle.lq_model.specs.Row.{row_fits}
+use Rattle.lq_model.specs.Catalogue.{Catalogue, Table, View, table_of, the_table, is_empty, is_in, repeats, same_names, row_fits, column_names}
+use Rattle.lq_model.specs.Comparison.{compares_wrongly, is_literal, is_spelled, levels, test_literals}
+use Rattle.lq_model.specs.Plan.{is_full}
 use Rattle.lq_model.specs.Sound.{IsSound, are_columns, default_fits, is_view, wanted_names}
-use Rattle.lq_model.specs.Spelled.{is_literal, is_spelled, levels, test_literals}
-use Rattle.lq_model.specs.TableNames.{column_names}
 use Rattle.lq_model.specs.Truth.{names_in}
 use Rattle.lq_model.specs.declared.column.Column.{Column}
 use Rattle.lq_model.specs.declared.test.Test.{Test}
 use Rattle.lq_model.proofs.Lists.{and_left, and_right, and_true, or_left, or_right}
-use Rattle.lq_codec.specs.Database.{bytes_of, can_be_written}
-use Rattle.lq_codec.specs.Limits.{OnTrue, free, if_any, if_both, is_below_level}
-use Rattle.lq_codec.specs.Sound.{are_in_order, has_sound_columns, has_sound_lists, has_sound_objects, has_sound_rows, is_sound_table}
-use Rattle.lq_codec.specs.State.{state_of}
-use Rattle.lq_codec.specs.Tables.{has_some}
+use Rattle.lq_codec.specs.Tables.{bytes_of, can_be_written, has_some}
+use Rattle.lq_codec.specs.State.{OnTrue, free, if_any, if_both, is_below_level, are_in_order, has_sound_columns, has_sound_lists, has_sound_objects, has_sound_rows, is_sound_table, state_of}
 use Rattle.laws_codec.proofs.Read.{states_are_read}
 use Rattle.laws_codec.proofs.SoundLemmas.{sound_test}
 use Rattle.lq_state.specs.Shaped.{has_width, is_shaped, is_shaped_view, is_shaped_whole}

@@ -1,8 +1,8 @@
 ghost use Rattle.std.specs.List.{list_all};
 ghost use Rattle.std.specs.Prelude.{◌≡◌, ◌++◌, OnOk, true};
 ghost use Rattle.lq_codec.specs.Codec.{both, write_each};
-ghost use Rattle.lq_codec.specs.Database.{sequence_codec, view_codec};
-ghost use Rattle.lq_codec.specs.Limits.{OnTrue, free, if_both};
+ghost use Rattle.lq_codec.specs.Tables.{sequence_codec, view_codec};
+ghost use Rattle.lq_codec.specs.State.{OnTrue, free, if_both};
 ghost use Rattle.lq_codec.specs.Queries.{names};
 ghost use Rattle.lq_codec.specs.Words.{name};
 ghost use Rattle.lq_state.specs.Shaped.{is_shaped_view};

@@ -1,7 +1,7 @@
 ghost use Rattle.std.specs.List.{list_all};
 ghost use Rattle.std.specs.Prelude.{◌≡◌, ◌++◌, OnOk, true};
 ghost use Rattle.lq_codec.specs.Codec.{both, write_each};
-ghost use Rattle.lq_codec.specs.Limits.{OnTrue, free, if_both};
+ghost use Rattle.lq_codec.specs.State.{OnTrue, free, if_both};
 ghost use Rattle.lq_codec.specs.Tables.{row_codec, table_codec};
 ghost use Rattle.lq_codec.specs.Words.{name};
 ghost use Rattle.lq_parts.specs.Steps.{tables_of};

@@ -1,10 +1,8 @@
 ghost use Rattle.std.specs.List.{list_all};
 ghost use Rattle.std.specs.Prelude.{◌≡◌, ◌++◌, IfOk, OnOk, Some, true};
 ghost use Rattle.lq_codec.specs.Codec.{both, counted};
-ghost use Rattle.lq_codec.specs.Database.{bytes_of, can_be_written, sequence_codec, view_codec};
-ghost use Rattle.lq_codec.specs.Limits.{OnTrue, free, if_both};
-ghost use Rattle.lq_codec.specs.State.{state_of};
-ghost use Rattle.lq_codec.specs.Tables.{table_codec};
+ghost use Rattle.lq_codec.specs.Tables.{bytes_of, can_be_written, sequence_codec, view_codec, table_codec};
+ghost use Rattle.lq_codec.specs.State.{OnTrue, free, if_both, state_of};
 ghost use Rattle.lq_codec.specs.Words.{count, name};
 ghost use Rattle.lq_parts.specs.Steps.{tables_of};
 ghost use Rattle.lq_state.specs.Shaped.{is_shaped, is_shaped_view, is_shaped_whole};

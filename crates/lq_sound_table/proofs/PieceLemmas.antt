@@ -1,16 +1,15 @@
 -- Lemmas on the pieces.
 use Rattle.std.proofs.Common.{Bool, List, [], cond, false, map, not, refl, true, ◌&&◌, ◌∙◌, ◌||◌, ◌∷◌, ◌≡◌, ap}
-use Rattle.std.specs.List.{filter, list_all}
+use Rattle.std.specs.List.{filter, list_all, list_any}
 use Rattle.lq_base.specs.Name.{is_named}
 use Rattle.lq_base.specs.declared.name.Name.{Name}
 use Rattle.std.proofs.Common.{◌++◌}
-use Rattle.std.specs.List.{list_any}
 use Rattle.std.proofs.lemmas.List.Folds.{list_all-append}
 use Rattle.lq_model.proofs.Lists.{all-map, any-append, any-map}
 use Rattle.lq_model.specs.declared.constraint.Key.{Key}
 use Rattle.lq_model.specs.declared.constraint.Unique.{Unique}
 use Rattle.lq_model.specs.declared.index.Index.{Index}
-use Rattle.lq_model.specs.Names.{is_in}
+use Rattle.lq_model.specs.Catalogue.{is_in}
 use Rattle.lq_model.specs.declared.column.Column.{Column}
 use Rattle.std.proofs.Common.{sym, codes}
 use Rattle.std.proofs.lemmas.Slice.Eq.{bytes_eq-Decides}

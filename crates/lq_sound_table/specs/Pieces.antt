@@ -2,8 +2,8 @@
 use Rattle.std.specs.List.{filter, list_all}
 use Rattle.std.specs.Prelude.{Bool, List, Option, is_none, map, not, ◌&&◌, ◌||◌}
 use Rattle.lq_base.specs.declared.name.Name.{Name}
+use Rattle.lq_model.specs.Catalogue.{is_empty, is_in, repeats}
 use Rattle.lq_model.specs.Kinds.{is_number}
-use Rattle.lq_model.specs.Names.{is_empty, is_in, repeats}
 use Rattle.lq_model.specs.Sound.{is_key_of}
 use Rattle.lq_model.specs.declared.column.Column.{Column}
 use Rattle.lq_model.specs.declared.constraint.Key.{Key}

@@ -1,7 +1,7 @@
 ghost use Rattle.std.specs.List.{list_all};
 ghost use Rattle.std.specs.Prelude.{◌≡◌, ◌++◌, IfOk, OnOk, map};
 ghost use Rattle.lq_base.specs.Kind.{is_kind};
-ghost use Rattle.lq_model.specs.Names.{is_empty, repeats};
+ghost use Rattle.lq_model.specs.Catalogue.{is_empty, repeats};
 ghost use Rattle.lq_model.specs.Sound.{default_fits};
 ghost use Rattle.lq_sound_table.specs.Pieces.{names_of};
 

@@ -3,9 +3,8 @@ ghost use Rattle.std.specs.Option.{option_copied};
 ghost use Rattle.std.specs.Prelude.{◌≡◌, ◌++◌, ◌∷◌, [], IfOk, OnOk, map, not, ◌||◌};
 ghost use Rattle.lq_base.specs.Name.{is_named};
 ghost use Rattle.lq_model.specs.Kinds.{is_number};
-ghost use Rattle.lq_model.specs.Names.{same_names};
+ghost use Rattle.lq_model.specs.Catalogue.{same_names, key_list};
 ghost use Rattle.lq_model.specs.Sound.{is_key_name, is_key_of, primary};
-ghost use Rattle.lq_model.specs.TableNames.{key_list};
 ghost use Rattle.lq_sound_table.specs.Pieces.{null_names, numbers_well};
 
 use lq_base::{Dialect, Items, Kind, Name, NoMemory};

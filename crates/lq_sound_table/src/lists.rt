@@ -1,8 +1,7 @@
 ghost use Rattle.std.specs.List.{list_all};
 ghost use Rattle.std.specs.Option.{option_copied};
 ghost use Rattle.std.specs.Prelude.{◌≡◌, ◌++◌, IfOk, OnOk, map};
-ghost use Rattle.lq_model.specs.Names.{is_in, repeats};
-ghost use Rattle.lq_model.specs.TableNames.{key_list};
+ghost use Rattle.lq_model.specs.Catalogue.{is_in, repeats, key_list};
 ghost use Rattle.lq_sound_table.specs.Pieces.{are_some_of, names_of};
 
 use lq_base::{Items, Name, NoMemory};

@@ -1,9 +1,8 @@
 ghost use Rattle.std.specs.List.{list_any};
 ghost use Rattle.std.specs.Prelude.{◌≡◌, ◌++◌, IfOk, OnOk, map};
 ghost use Rattle.lq_base.specs.Name.{is_elsewhere};
-ghost use Rattle.lq_codec.specs.Sound.{own_names};
-ghost use Rattle.lq_model.specs.Names.{repeats};
-ghost use Rattle.lq_model.specs.TableNames.{constraint_names, own_names as all_names};
+ghost use Rattle.lq_codec.specs.State.{own_names};
+ghost use Rattle.lq_model.specs.Catalogue.{repeats, constraint_names, own_names as all_names};
 
 use crate::columns::push_columns;
 use lq_base::{Dialect, Items, Name, NoMemory};

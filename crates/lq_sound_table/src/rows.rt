@@ -1,9 +1,8 @@
 ghost use Rattle.std.specs.List.{filter, list_all, list_any};
 ghost use Rattle.std.specs.Option.{option_copied};
 ghost use Rattle.std.specs.Prelude.{◌≡◌, ◌++◌, IfOk, map};
-ghost use Rattle.lq_model.specs.ResultTests as spec;
-ghost use Rattle.lq_model.specs.Row.{has_bad_null, has_equals, picked, row_fits};
-ghost use Rattle.lq_model.specs.TableNames.{key_list};
+ghost use Rattle.lq_model.specs.Plan as spec;
+ghost use Rattle.lq_model.specs.Catalogue.{has_bad_null, has_equals, picked, row_fits, key_list};
 
 use lq_base::{Name, NoMemory, Value};
 use lq_chain::Chain;

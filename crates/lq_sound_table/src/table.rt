@@ -1,9 +1,9 @@
 ghost use Rattle.std.specs.List.{list_all};
 ghost use Rattle.std.specs.Option.{option_copied};
 ghost use Rattle.std.specs.Prelude.{◌≡◌, ◌++◌, ◌&&◌, IfOk, map};
-ghost use Rattle.lq_model.specs.TableNames.{key_list};
+ghost use Rattle.lq_model.specs.Catalogue.{key_list};
 ghost use Rattle.lq_sound_table.specs.Pieces.{are_some_of};
-ghost use Rattle.lq_codec.specs.Sound.{are_lists, has_sound_columns, is_key_well, is_sound_table};
+ghost use Rattle.lq_codec.specs.State.{are_lists, has_sound_columns, is_key_well, is_sound_table};
 
 use crate::columns::{are_kinds, are_none, columns_repeat, defaults_fit};
 use crate::key::{are_numbered_well, key_is_named, key_is_not_null};

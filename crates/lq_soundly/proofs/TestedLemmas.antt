@@ -7,7 +7,7 @@ use Rattle.std.specs.Cmp.{both_ways}
 use Rattle.lq_model.proofs.Lists.{and_left, and_right, and_true}
 use Rattle.std.specs.List.{list_all, list_any}
 use Rattle.std.proofs.lemmas.List.Folds.{list_all-append}
-use Rattle.lq_model.specs.Spelled.{is_literal, levels, operand_literals, test_literals}
+use Rattle.lq_model.specs.Comparison.{is_literal, levels, operand_literals, test_literals}
 use Rattle.lq_model.specs.declared.test.Op.{Op}
 use Rattle.lq_model.specs.declared.test.Operand.{Operand}
 use Rattle.lq_model.specs.declared.test.Test.{And, Compare, Not, Or, Test}

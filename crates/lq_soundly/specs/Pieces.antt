@@ -4,12 +4,10 @@ use Rattle.std.specs.Ordering.{is_lt}
 use Rattle.std.specs.Prelude.{Bool, List, [], map, not, true, ◌&&◌, ◌∷◌}
 use Rattle.lq_base.specs.Name.{name_cmp}
 use Rattle.lq_base.specs.declared.name.Name.{Name}
-use Rattle.lq_model.specs.Catalogue.{Catalogue, View, the_table}
-use Rattle.lq_model.specs.Comparison.{compares_wrongly}
+use Rattle.lq_model.specs.Catalogue.{Catalogue, View, is_in, same_names, the_table}
+use Rattle.lq_model.specs.Comparison.{compares_wrongly, is_spelled}
 use Rattle.lq_model.specs.Kinds.{kind_of, same_kinds}
-use Rattle.lq_model.specs.Names.{is_in, same_names}
 use Rattle.lq_model.specs.Sound.{wanted_names}
-use Rattle.lq_model.specs.Spelled.{is_spelled}
 use Rattle.lq_model.specs.Truth.{names_in}
 use Rattle.lq_model.specs.declared.column.Column.{Column}
 use Rattle.lq_model.specs.declared.constraint.ForeignKey.{ForeignKey}

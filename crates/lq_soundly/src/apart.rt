@@ -2,11 +2,10 @@ ghost use Rattle.std.specs.List.{flat_map, list_any};
 ghost use Rattle.std.specs.Prelude.{◌≡◌, ◌++◌, IfOk, OnOk, map, not};
 ghost use Rattle.lq_base.specs.Name.{is_elsewhere};
 ghost use Rattle.lq_model.specs.NameSpaces.{all_foreign_names, names_inside, object_names, shared_names};
-ghost use Rattle.lq_model.specs.Names.{repeats};
+ghost use Rattle.lq_model.specs.Catalogue.{repeats, foreign_names, inner_names, placed};
 ghost use Rattle.lq_model.specs.Sound.{may_name};
-ghost use Rattle.lq_model.specs.TableNames.{foreign_names, inner_names, placed};
 ghost use Rattle.lq_parts.specs.Steps.{tables_of};
-ghost use Rattle.lq_codec.specs.Sound.{are_apart};
+ghost use Rattle.lq_codec.specs.State.{are_apart};
 
 use lq_base::{Dialect, Items, Name, NoMemory, placed};
 use lq_parts::Parts;

@@ -1,12 +1,12 @@
 ghost use Rattle.std.specs.List.{list_all, list_any};
 ghost use Rattle.std.specs.Ordering.{int_eq};
 ghost use Rattle.std.specs.Prelude.{◌≡◌, IfOk, pos};
-ghost use Rattle.lq_model.specs.ResultTests as spec;
+ghost use Rattle.lq_model.specs.Plan as spec;
 ghost use Rattle.lq_model.specs.Kinds.{kinds_differ};
 ghost use Rattle.lq_model.specs.Sound.{may_have};
 ghost use Rattle.lq_parts.specs.Steps.{tables_of};
 ghost use Rattle.lq_soundly.specs.Pieces.{differs_from};
-ghost use Rattle.lq_codec.specs.Sound.{is_sound_table};
+ghost use Rattle.lq_codec.specs.State.{is_sound_table};
 
 use crate::foreign::{one_differs, one_misses};
 use lq_base::{Dialect, Name, NoMemory};

@@ -1,11 +1,9 @@
 ghost use Rattle.std.specs.List.{list_any};
 ghost use Rattle.std.specs.Option.{option_copied};
 ghost use Rattle.std.specs.Prelude.{◌≡◌, ◌++◌, [], IfOk, map, not};
-ghost use Rattle.lq_model.specs.Catalogue.{the_table};
+ghost use Rattle.lq_model.specs.Catalogue.{the_table, same_names, key_list};
 ghost use Rattle.lq_model.specs.Kinds.{kind_of, same_kinds};
-ghost use Rattle.lq_model.specs.Names.{same_names};
-ghost use Rattle.lq_model.specs.ResultTests.{misses_target};
-ghost use Rattle.lq_model.specs.TableNames.{key_list};
+ghost use Rattle.lq_model.specs.Plan.{misses_target};
 ghost use Rattle.lq_soundly.specs.Pieces.{differs_from};
 
 use lq_base::{Name, NoMemory};

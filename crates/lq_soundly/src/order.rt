@@ -1,7 +1,7 @@
 ghost use Rattle.std.specs.FinMap.Entries.{is_sorted};
 ghost use Rattle.std.specs.Prelude.{◌≡◌};
 ghost use Rattle.lq_base.specs.Name.{name_cmp};
-ghost use Rattle.lq_codec.specs.Sound.{are_in_order};
+ghost use Rattle.lq_codec.specs.State.{are_in_order};
 ghost use Rattle.lq_parts.specs.Steps.{tables_of};
 ghost use Rattle.lq_soundly.specs.Pieces.{begins_above};
 

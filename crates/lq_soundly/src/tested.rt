@@ -1,8 +1,7 @@
 ghost use Rattle.std.specs.List.{list_all};
 ghost use Rattle.std.specs.Prelude.{◌≡◌, nat_le};
-ghost use Rattle.lq_model.specs.Comparison.{compares_wrongly};
-ghost use Rattle.lq_model.specs.Names.{is_in};
-ghost use Rattle.lq_model.specs.Spelled.{is_literal, is_spelled, levels, operand_literals, test_literals};
+ghost use Rattle.lq_model.specs.Comparison.{compares_wrongly, is_literal, is_spelled, levels, operand_literals, test_literals};
+ghost use Rattle.lq_model.specs.Catalogue.{is_in};
 ghost use Rattle.lq_model.specs.Truth.{names_in, test_names};
 ghost use Rattle.lq_sound_table.specs.Pieces.{names_of};
 

@@ -1,6 +1,6 @@
 ghost use Rattle.std.specs.List.{list_all};
 ghost use Rattle.std.specs.Prelude.{◌≡◌, IfOk};
-ghost use Rattle.lq_model.specs.Names.{same_names};
+ghost use Rattle.lq_model.specs.Catalogue.{same_names};
 ghost use Rattle.lq_model.specs.Sound.{is_view, wanted_names};
 ghost use Rattle.lq_sound_table.specs.Pieces.{are_some_of};
 ghost use Rattle.lq_soundly.specs.Pieces.{is_view_of};

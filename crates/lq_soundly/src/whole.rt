@@ -1,7 +1,7 @@
 ghost use Rattle.std.specs.Prelude.{◌≡◌, IfOk};
-ghost use Rattle.lq_model.specs.ResultTests as spec;
+ghost use Rattle.lq_model.specs.Plan as spec;
 ghost use Rattle.lq_model.specs.Sound.{is_unlike};
-ghost use Rattle.lq_codec.specs.Sound.{has_sound_objects, has_sound_rows, is_sound};
+ghost use Rattle.lq_codec.specs.State.{has_sound_objects, has_sound_rows, is_sound};
 
 use crate::apart::{are_apart, may_name};
 use crate::catalogue::{

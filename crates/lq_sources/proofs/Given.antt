@@ -6,8 +6,7 @@ use Rattle.std.proofs.Math.Seq.{drop-cons}
 use Rattle.lq_props.specs.Props.{defines}
 use Rattle.lq_props.specs.declared.scope.Scope.{Scope}
 use Rattle.lq_props.specs.declared.scope.Scope.TheVariants.{Command}
-use Rattle.lq_sources.specs.SoFar.{given_values}
-use Rattle.lq_sources.specs.Values.{Values}
+use Rattle.lq_sources.specs.Items.{given_values, Values}
 
 pub one_more : (whole values after : Values) (xs : List (List ℕ × List ℕ)) (i : ℕ) (x d : List ℕ × List ℕ) → i < length xs → x ≡ slice_index_or xs i d
     → ((s : Scope) (n : List ℕ) → after s n ≡ defines values Command x.0 x.1 s n)

@@ -6,17 +6,13 @@ use Rattle.lq_paths.specs.Paths.{joined}
 use Rattle.lq_paths.specs.declared.path.Format.{Format}
 use Rattle.lq_tree.proofs.Says.{IsSo, all_found, then_so, within_so}
 use Rattle.lq_tree.proofs.Small.{are_small, have_small, is_small, items_small, map_small, value_small}
-use Rattle.lq_tree.specs.Found.{Found}
+use Rattle.lq_tree.specs.Look.{Found, list_of, map_of, value_at}
 use Rattle.lq_tree.specs.Keys.{at_required, known}
-use Rattle.lq_tree.specs.Look.{list_of, map_of, value_at}
 use Rattle.lq_tree.specs.declared.node.Node.{Node}
 use Rattle.lq_sources.proofs.StillSmall.{filled_small}
 use Rattle.lq_sources.specs.Faults.{Loaded, by_keys, fault_in, in_file, placed_what, ◌>>=◌}
-use Rattle.lq_sources.specs.Items.{entry_in, entry_of, items_of, listed, place}
-use Rattle.lq_sources.specs.Meaning.{Meaning}
-use Rattle.lq_sources.specs.SoFar.{SoFar, nothing_yet, with_file, with_property, with_set}
+use Rattle.lq_sources.specs.Items.{entry_in, entry_of, items_of, listed, place, Meaning, SoFar, nothing_yet, with_file, with_property, with_set, filled, value_in}
 use Rattle.lq_sources.specs.Source.{Source}
-use Rattle.lq_sources.specs.Values.{filled, value_in}
 use Rattle.lq_sources.specs.Walk.{Held, bring, bytes_read, contents, each, each_from, entry_at, file, gathered_in, is_set, item_gathered, item_read, item_with_files, items_read, may_open, named, on_wanted, root_file, take_entry, take_folder, take_item, take_path, taken_under, target, tried, walked, wanted_bytes}
 use Rattle.lq_sources.specs.declared.fault.Lack.{Lack}
 use Rattle.lq_sources.specs.declared.fault.Lack.TheVariants.{File, Wrong}

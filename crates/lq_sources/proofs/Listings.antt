@@ -11,9 +11,9 @@ use Rattle.std.specs.declared.cmp.Ordering.TheVariants.{Less, Equal, Greater}
 use Rattle.std.proofs.lemmas.List.{append-nil}
 use Rattle.std.proofs.lemmas.List.Sorted.{Contains-permutation, IsPermutation-reverse, IsPermutation-sym}
 use Rattle.std.proofs.lemmas.Map.Keys.{IsDistinct-IsPermutation, apart_from_distinct, sorted_from_all_adjacent}
-use Rattle.lq_base.specs.Text.{text_cmp}
-use Rattle.lq_outside.specs.Folder.{IsListing}
-use Rattle.lq_sources.specs.Answers.{Finds}
+use Rattle.lq_base.specs.Name.{text_cmp}
+use Rattle.lq_outside.specs.Forms.{IsListing}
+use Rattle.lq_sources.specs.Faults.{Finds}
 
 module _ {K : Type 0} where
   abbrev pub Member : K → List K → Type 0

@@ -10,8 +10,8 @@ use Rattle.std.specs.declared.cmp.Ordering.{Ordering}
 use Rattle.std.specs.declared.cmp.Ordering.TheVariants.{Less, Equal, Greater}
 use Rattle.std.proofs.lemmas.Map.Keys.{IsDistinct-from_sorted, sorted_head, sorted_tail}
 use Rattle.std.proofs.lemmas.Slice.Eq.{bytes_eq-Decides}
-use Rattle.lq_base.specs.Text.{text_cmp}
-use Rattle.lq_outside.specs.Folder.{IsListing, IsUnder, held_in}
+use Rattle.lq_base.specs.Name.{text_cmp}
+use Rattle.lq_outside.specs.Forms.{IsListing, IsUnder, held_in}
 use Rattle.lq_sources.proofs.Listings.{Member, contained, member, one_listing}
 use Rattle.lq_sources.specs.Source.{FilesHaveSource, IsSourceOf, Source, SourceIsOne}
 

@@ -4,11 +4,8 @@ use Rattle.std.specs.Prelude.{cond, if◌then◌else◌, nat_le, slice_index_or,
 use Rattle.std.proofs.Math.Nat.{le_trans}
 use Rattle.std.proofs.Math.Seq.{drop-cons}
 use Rattle.lq_tree.specs.declared.node.Node.{Node}
-use Rattle.lq_sources.specs.Answers.{Answers, IsFree}
-use Rattle.lq_sources.specs.Faults.{Loaded, by_keys, in_file, ◌>>=◌}
-use Rattle.lq_sources.specs.Items.{items_of}
-use Rattle.lq_sources.specs.Meaning.{Meaning}
-use Rattle.lq_sources.specs.SoFar.{SoFar, nothing_yet, with_file, with_set}
+use Rattle.lq_sources.specs.Faults.{Answers, IsFree, Loaded, by_keys, in_file, ◌>>=◌}
+use Rattle.lq_sources.specs.Items.{items_of, Meaning, SoFar, nothing_yet, with_file, with_set}
 use Rattle.lq_sources.specs.Source.{IsTold, Source}
 use Rattle.lq_sources.specs.Walk.{Held, bytes_read, contents, each, each_from, file, gathered_in, is_set, item_gathered, item_with_files, may_open, named, on_wanted, root_file, take_folder, take_item, take_path, taken_under, tried, walked, wanted_bytes, written}
 use Rattle.lq_sources.specs.declared.fault.LoadFault.{LoadFault}

@@ -2,7 +2,7 @@
 use Rattle.std.proofs.Common.{ap, map, refl, rules, subst, sym, ◌∙◌, ◌∷◌, ◌≡◌, [], List, Option, ℕ, ℤ, Bool, true}
 use Rattle.std.proofs.lemmas.Bool.{and_from, and_parts}
 use Rattle.lq_props.specs.Replaced.{replaced}
-use Rattle.lq_sources.specs.Values.{filled}
+use Rattle.lq_sources.specs.Items.{filled}
 use Rattle.lq_tree.proofs.Small.{are_small, have_small, is_small, list_is, map_is, null_small, text_small, truth_small, whole_is}
 use Rattle.lq_tree.specs.declared.node.Node.{List as ListNode, Map as MapNode, Node, Null, Text as TextNode, Truth, Whole, map-Node, roll-Node, the_lemmas}
 use Rattle.lq_tree.specs.declared.node.Node.TheFolds.{ind-Node}

@@ -1,19 +1,26 @@
 -- The items of a changelog's list.
-use Rattle.std.specs.Prelude.{Bool, Err, List, None, Ok, Option, Some, [], codes, false, if◌then◌else◌, ℕ, ◌∷◌}
 use Rattle.std.specs.Option.{unwrap_or}
-use Rattle.std.specs.Prelude.{true}
+use Rattle.std.specs.Prelude.{Bool, Err, List, None, Ok, Option, Result, Some, [], codes, cond, false, if◌then◌else◌, true, ℕ, ◌+◌, ◌∷◌}
 use Rattle.std.specs.Str.{bytes_eq}
 use Rattle.lq_base.specs.declared.fault.KindFault.TheVariants.{Bad}
-use Rattle.lq_tree.specs.Found.{Found, Taken, and_then, within}
-use Rattle.lq_tree.specs.Given.{a_text, a_truth}
-use Rattle.lq_tree.specs.Items.{item_path}
-use Rattle.lq_tree.specs.Keys.{at_optional, at_required, known}
-use Rattle.lq_tree.specs.Look.{list_of, map_of, value_at}
-use Rattle.lq_tree.specs.declared.node.Node.{Node}
+use Rattle.lq_paths.specs.declared.path.Format.{Format}
+use Rattle.lq_props.specs.Props.{defines, or_else, own}
+use Rattle.lq_props.specs.Replaced.{replaced}
+use Rattle.lq_props.specs.declared.scope.Scope.{Scope}
+use Rattle.lq_props.specs.declared.scope.Scope.TheVariants.{Command, File, Global}
+use Rattle.lq_sources.specs.declared.fault.Lack.{Lack}
+use Rattle.lq_sources.specs.declared.fault.What.{What}
 use Rattle.lq_sources.specs.declared.item.Included.{Included}
 use Rattle.lq_sources.specs.declared.item.Item.{Item}
 use Rattle.lq_sources.specs.declared.item.Item.TheVariants.{Include, IncludeAll, Other, Property as PropertyItem}
 use Rattle.lq_sources.specs.declared.item.Property.{Property}
+use Rattle.lq_sources.specs.declared.reading.Reading.{Reading}
+use Rattle.lq_tree.specs.Given.{a_text, a_truth}
+use Rattle.lq_tree.specs.Items.{item_path}
+use Rattle.lq_tree.specs.Keys.{at_optional, at_required, known}
+use Rattle.lq_tree.specs.Look.{Found, Taken, and_then, list_of, map_of, value_at, within}
+use Rattle.lq_tree.specs.declared.node.Node.{List as ListNode, Map as MapNode, Node, Null, Text, Truth, Whole, fold-Node}
+use Rattle.lq_tree.specs.declared.node.Node.TheOpen.{Node-F}
 
 abbrev pub listed : Option (List Node) → Found (List Node)
 listed None = Err (Bad [])
@@ -64,3 +71,70 @@ item_at here key n =
     else if bytes_eq key (codes "includeAll") then within key (and_then (included (codes "path") n) (λ it. Ok (IncludeAll it)))
     else if bytes_eq key (codes "property") then within key (and_then (property here n) (λ it. Ok (PropertyItem it)))
     else Ok Other
+
+-- What a loading makes of files, but for their includes and properties.
+
+pub record Meaning (G : Type 0) : Type 0 where
+  -- the tree of a file's bytes
+  pub tree : Format → List ℕ → Result Node What
+  -- whether a property is for the dialect, by its map
+  pub here : Taken Bool
+  -- what has been gathered with one more item of the file at a path, which may be the root: its key, with the value. The bytes are those of the files that it wanted so far
+  pub gathers : List (List ℕ) → Bool → List ℕ → List ℕ → Node → G → Result G Lack
+
+-- Properties put into a tree.
+
+-- the values that names have been given, by scope
+abbrev pub Values : Type 0
+Values = Scope → List ℕ → Option (List ℕ)
+
+-- the value of a name in a file: the command line's, else the file's own, else the global one
+abbrev pub value_in : Values → List ℕ → List ℕ → Option (List ℕ)
+value_in values file name = or_else (values Command name) (or_else (values (File file) name) (values Global name))
+
+-- one level, with the values put into each tree inside
+abbrev filled_in : (List ℕ → Option (List ℕ)) → Node-F Node → Node
+filled_in value (Node-F.Text t) = Text (replaced value t)
+filled_in value (Node-F.Whole n) = Whole n
+filled_in value (Node-F.Truth b) = Truth b
+filled_in value Node-F.Null = Null
+filled_in value (Node-F.List ns) = ListNode ns
+filled_in value (Node-F.Map es) = MapNode es
+
+-- a tree with the values put into each of its texts; its keys stay
+abbrev pub filled : (List ℕ → Option (List ℕ)) → Node → Node
+filled value n = fold-Node Node (filled_in value) n
+
+-- What was read so far.
+
+pub record SoFar : Type 0 where
+  -- how many files, and how many bytes they have
+  pub files : ℕ
+  pub bytes : ℕ
+  -- the properties that were defined
+  pub values : Values
+  -- how many changesets there are
+  pub sets : ℕ
+
+abbrev pub so_far : Reading → SoFar
+so_far r = record { files = r.files; bytes = r.bytes; values = own r.props; sets = r.sets }
+
+-- the first value of a name on the command line stays
+abbrev pub given_values : List (List ℕ × List ℕ) → Values → Values
+given_values [] values = values
+given_values (e ∷ es) values = given_values es (defines values Command e.0 e.1)
+
+-- before the root is read
+abbrev pub nothing_yet : List (List ℕ × List ℕ) → SoFar
+nothing_yet given = record { files = 0; bytes = 0; values = given_values given (λ scope name. None); sets = 0 }
+
+-- one more file, of so many bytes
+abbrev pub with_file : ℕ → SoFar → SoFar
+with_file length s = record s { files = s.files + 1; bytes = s.bytes + length }
+
+abbrev pub with_set : SoFar → SoFar
+with_set s = record s { sets = s.sets + 1 }
+
+-- the first value of a name in its scope stays; a property that is not here is passed over
+abbrev pub with_property : List ℕ → Property → SoFar → SoFar
+with_property path it s = cond it.here (record s { values = defines s.values (cond it.global Global (File path)) it.name it.value }) s

@@ -1,8 +1,4 @@
-pub mod Answers
 pub mod Faults
-pub mod Items
-pub mod Meaning
-pub mod SoFar
 pub mod Source
-pub mod Values
+pub mod Items
 pub mod Walk

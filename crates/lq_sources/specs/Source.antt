@@ -1,8 +1,8 @@
 -- What the files hold that a loading reads.
-use Rattle.std.specs.Prelude.{◌≡◌, List, None, Option, Some, ℕ}
 use Rattle.std.specs.List.Sorted.{IsStrictlySortedBy}
-use Rattle.lq_base.specs.Text.{text_cmp}
-use Rattle.lq_outside.specs.Folder.{IsListing, held_in}
+use Rattle.std.specs.Prelude.{List, None, Option, Some, ℕ, ◌≡◌}
+use Rattle.lq_base.specs.Name.{text_cmp}
+use Rattle.lq_outside.specs.Forms.{IsListing, held_in}
 
 -- the bytes at each path, and the paths of all files under each folder, in order of their bytes
 pub record Source : Type 0 where

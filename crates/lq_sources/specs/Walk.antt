@@ -1,17 +1,14 @@
 -- What the files below a root bring, or the first fault.
-use Rattle.std.specs.Prelude.{Bool, Err, List, None, Ok, Option, Result, Some, [], codes, cond, false, if◌then◌else◌, is_some, length, nat_le, nat_lt, not, suc, true, zero, ℕ, ◌&&◌, ◌+◌, ◌++◌, ◌-◌, ◌==◌, ◌||◌, ◌∷◌}
 use Rattle.std.specs.List.{filter}
+use Rattle.std.specs.Prelude.{Bool, Err, List, None, Ok, Option, Result, Some, [], codes, cond, false, if◌then◌else◌, is_some, length, nat_le, nat_lt, not, suc, true, zero, ℕ, ◌&&◌, ◌++◌, ◌+◌, ◌-◌, ◌==◌, ◌||◌, ◌∷◌}
 use Rattle.std.specs.Str.{bytes_eq}
-use Rattle.lq_base.specs.Character.{char_count, has_control}
+use Rattle.lq_base.specs.Number.{char_count, has_control}
 use Rattle.lq_base.specs.declared.fault.KindFault.TheVariants.{Bad}
-use Rattle.lq_tree.specs.declared.node.Node.{Node}
-use Rattle.lq_sources.specs.Faults.{Loaded, at_place, by_keys, fault_in, in_file, placed_what, ◌>>=◌}
-use Rattle.lq_sources.specs.Items.{entry_of, item_at, items_of, place}
-use Rattle.lq_sources.specs.Meaning.{Meaning}
 use Rattle.lq_paths.specs.Paths.{format_of, is_xml, joined, plain}
-use Rattle.lq_sources.specs.SoFar.{SoFar, nothing_yet, so_far, with_file, with_property, with_set}
+use Rattle.lq_paths.specs.declared.path.Format.{Format}
+use Rattle.lq_sources.specs.Faults.{Loaded, at_place, by_keys, fault_in, in_file, placed_what, ◌>>=◌}
+use Rattle.lq_sources.specs.Items.{Meaning, SoFar, entry_of, filled, item_at, items_of, nothing_yet, place, so_far, value_in, with_file, with_property, with_set}
 use Rattle.lq_sources.specs.Source.{Source}
-use Rattle.lq_sources.specs.Values.{filled, value_in}
 use Rattle.lq_sources.specs.declared.fault.Lack.{Lack}
 use Rattle.lq_sources.specs.declared.fault.Lack.TheVariants.{File, Wrong}
 use Rattle.lq_sources.specs.declared.fault.LoadFault.TheVariants.{Fault, NoFile, TooDeep, TooLong, TooMany, Xml}
@@ -19,8 +16,8 @@ use Rattle.lq_sources.specs.declared.fault.What.TheVariants.{BadPath, Key, Unkno
 use Rattle.lq_sources.specs.declared.item.Included.{Included}
 use Rattle.lq_sources.specs.declared.item.Item.{Item}
 use Rattle.lq_sources.specs.declared.item.Item.TheVariants.{Include, IncludeAll, Other, Property}
-use Rattle.lq_paths.specs.declared.path.Format.{Format}
 use Rattle.lq_sources.specs.declared.reading.Reading.{Reading}
+use Rattle.lq_tree.specs.declared.node.Node.{Node}
 
 -- the items of a list with their places, counted from i, up to the first fault
 abbrev pub each_from : {A S : Type 0} → (ℕ → A → S → Loaded S) → ℕ → List A → S → Loaded S

@@ -1,6 +1,5 @@
 ghost use Rattle.std.specs.Prelude.{◌≡◌, ◌⊎◌, false, true, IfOk, Ok, Err};
-ghost use Rattle.lq_sources.specs.Answers.{is_read};
-ghost use Rattle.lq_sources.specs.Faults.{fault_in, is_memory, placed_what};
+ghost use Rattle.lq_sources.specs.Faults.{is_read, fault_in, is_memory, placed_what};
 ghost use Rattle.lq_sources.specs.Items.{place};
 ghost use Rattle.lq_sources.specs.declared.fault.LoadFault.TheVariants.{OutOfMemory};
 

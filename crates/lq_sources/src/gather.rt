@@ -6,9 +6,9 @@ use std::alloc::Global;
 
 /// What a loading does with files, but for their includes and properties.
 pub trait Gather {
-    ghost use Rattle.lq_tree.specs.Found.{Reads};
-    ghost use Rattle.lq_sources.specs.Answers.{IsKept, IsMade, Makes};
-    ghost use Rattle.lq_sources.specs.Meaning.{Meaning};
+    ghost use Rattle.lq_tree.specs.Look.{Reads};
+    ghost use Rattle.lq_sources.specs.Faults.{IsKept, IsMade, Makes};
+    ghost use Rattle.lq_sources.specs.Items.{Meaning};
 
     /// What it gathers.
     type Gathered: Drop;

@@ -1,8 +1,8 @@
 //! An item of a file gathered, with the files that it wants.
 ghost use Rattle.std.specs.Prelude.{◌≡◌, ◌≤◌, ◌<◌, ◌+◌, ◌-◌, ◌&&◌, IfOk, IsErrOf, cond, false, length, nat_le};
-ghost use Rattle.lq_outside.specs.Count.{Rose};
-ghost use Rattle.lq_sources.specs.Answers.{Answers, Finds, Loads, map_ok};
-ghost use Rattle.lq_sources.specs.SoFar.{so_far, with_set};
+ghost use Rattle.lq_outside.specs.Forms.{Rose};
+ghost use Rattle.lq_sources.specs.Faults.{Answers, Finds, Loads, map_ok};
+ghost use Rattle.lq_sources.specs.Items.{so_far, with_set};
 ghost use Rattle.lq_sources.specs.Walk.{held, is_set, item_gathered, item_with_files, tried, wanted_bytes};
 ghost use Rattle.lq_sources.specs.declared.fault.LoadFault.TheVariants.{Read};
 

@@ -1,6 +1,6 @@
 ghost use Rattle.std.specs.Prelude.{◌≡◌, IfOk};
 ghost use Rattle.std.specs.Option.{option_copied};
-ghost use Rattle.lq_tree.specs.Found.{Reads, map_found};
+ghost use Rattle.lq_tree.specs.Look.{Reads, map_found};
 ghost use Rattle.lq_sources.specs.Items.{entry_of, included, item_at, items_of, place, property};
 
 use crate::gather::Gather;

@@ -1,9 +1,9 @@
 ghost use Rattle.std.specs.Prelude.{◌≡◌, ◌≤◌, IfOk, IsErrOf, Ok};
 ghost use Rattle.std.specs.List.{filter};
 ghost use Rattle.std.specs.List.Sorted.{IsPermutation, IsSorted};
-ghost use Rattle.lq_base.specs.Text.{text_cmp};
-ghost use Rattle.lq_outside.specs.Count.{Rose};
-ghost use Rattle.lq_sources.specs.Answers.{Finds, map_ok};
+ghost use Rattle.lq_base.specs.Name.{text_cmp};
+ghost use Rattle.lq_outside.specs.Forms.{Rose};
+ghost use Rattle.lq_sources.specs.Faults.{Finds, map_ok};
 ghost use Rattle.lq_sources.specs.Walk.{is_taken, taken_under};
 ghost use Rattle.lq_sources.specs.declared.fault.LoadFault.TheVariants.{Read};
 

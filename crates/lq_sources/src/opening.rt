@@ -1,8 +1,8 @@
 ghost use Rattle.std.specs.Prelude.{◌≡◌, ◌≤◌, ◌<◌, ◌+◌, length, IfOk, IsErrOf};
-ghost use Rattle.lq_outside.specs.Count.{Rose};
-ghost use Rattle.lq_sources.specs.Answers.{Finds, Holds, Loads};
+ghost use Rattle.lq_outside.specs.Forms.{Rose};
+ghost use Rattle.lq_sources.specs.Faults.{Finds, Holds, Loads};
 ghost use Rattle.lq_paths.specs.Paths.{joined};
-ghost use Rattle.lq_sources.specs.SoFar.{so_far};
+ghost use Rattle.lq_sources.specs.Items.{so_far};
 ghost use Rattle.lq_sources.specs.Walk.{bytes_read, may_name, may_open, named, target, written};
 ghost use Rattle.lq_sources.specs.declared.fault.LoadFault.TheVariants.{Read};
 

@@ -1,6 +1,6 @@
 ghost use Rattle.std.specs.Prelude.{◌≡◌, ◌<◌, ◌≤◌, ◌+◌, IfOk, None, OnOk};
 ghost use Rattle.lq_props.specs.Props.{own};
-ghost use Rattle.lq_sources.specs.SoFar.{given_values, nothing_yet, so_far, with_file, with_property, with_set};
+ghost use Rattle.lq_sources.specs.Items.{given_values, nothing_yet, so_far, with_file, with_property, with_set};
 
 use crate::item::Property;
 use lq_base::{NoMemory, Text};

@@ -1,6 +1,5 @@
 ghost use Rattle.std.specs.Prelude.{◌≡◌};
-ghost use Rattle.lq_sources.specs.Answers.{Loads, map_ok};
-ghost use Rattle.lq_sources.specs.Faults.{by_keys, in_file};
+ghost use Rattle.lq_sources.specs.Faults.{Loads, map_ok, by_keys, in_file};
 ghost use Rattle.lq_sources.specs.Items.{items_of};
 ghost use Rattle.lq_sources.specs.Walk.{entry_at, item_read};
 

@@ -1,7 +1,7 @@
 ghost use Rattle.std.specs.Prelude.{◌≡◌, ℕ, List, Option, IfOk, map, true, unwrap_or};
 ghost use Rattle.lq_props.specs.Props.{own};
 ghost use Rattle.lq_props.specs.Replaced.{replaced};
-ghost use Rattle.lq_sources.specs.Values.{filled, value_in};
+ghost use Rattle.lq_sources.specs.Items.{filled, value_in};
 
 use lq_base::{Items, NoMemory, Text};
 use lq_props::Props;

@@ -1,6 +1,6 @@
 ghost use Rattle.std.specs.Prelude.{◌≡◌, ◌≤◌, ◌<◌, IsErrOf, false};
-ghost use Rattle.lq_outside.specs.Count.{Rose};
-ghost use Rattle.lq_sources.specs.Answers.{Answers};
+ghost use Rattle.lq_outside.specs.Forms.{Rose};
+ghost use Rattle.lq_sources.specs.Faults.{Answers};
 ghost use Rattle.lq_sources.specs.Walk.{contents, each, each_from, file, held, root_file, take_entry, take_folder, take_item, take_path, walked};
 ghost use Rattle.lq_sources.specs.declared.fault.LoadFault.TheVariants.{Read};
 

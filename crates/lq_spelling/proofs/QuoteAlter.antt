@@ -5,7 +5,7 @@ use Rattle.lq_base.specs.declared.dialect.Dialect.{Dialect}
 use Rattle.lq_base.specs.declared.dialect.Dialect.TheVariants.{Postgresql, Mysql}
 use Rattle.lq_base.specs.declared.name.Name.{Name}
 use Rattle.lq_model.specs.SqlAlter.{add, add_column, add_constraint, alter, alter_by, alter_column, alter_column_by, alter_sequence, alter_table, alter_table_by, alter_view, constraint_added, drop_part, drop_part_by, modify, new_name, rename_column, rename_part, rename_table_to, set_by, set_part, unset_by, unset_part}
-use Rattle.lq_model.specs.SqlColumn.{added_column}
+use Rattle.lq_model.specs.SqlTable.{added_column}
 use Rattle.lq_model.specs.SqlConstraint.{begins_constraint, table_constraint}
 use Rattle.lq_model.specs.SqlParser.{eat, expect, skip}
 use Rattle.lq_model.specs.SqlPart.{column_kind, literal, name, object}

@@ -6,14 +6,12 @@ use Rattle.lq_base.specs.declared.dialect.Dialect.{Dialect}
 use Rattle.lq_base.specs.declared.dialect.Dialect.TheVariants.{Postgresql, Mysql}
 use Rattle.lq_base.specs.declared.literal.Literal.{Literal}
 use Rattle.lq_base.specs.declared.literal.Literal.TheVariants as constant
-use Rattle.lq_model.specs.SqlAlter.{rename_table_to}
-use Rattle.lq_model.specs.SqlCreate.{create, create_by, create_index, create_sequence, create_view, step, whole, whole_of}
-use Rattle.lq_model.specs.SqlDrop.{drop_index, drop_object, drop_object_by, rename_table}
+use Rattle.lq_model.specs.SqlAlter.{rename_table_to, drop_index, drop_object, drop_object_by, rename_table}
+use Rattle.lq_model.specs.SqlStatement.{create, create_by, create_index, create_sequence, create_view, step, whole, whole_of, statement, statement_by}
 use Rattle.lq_model.specs.SqlParser.{eat, enclosed, ended, expect, pure, same_kind, separated, skip, to_end}
 use Rattle.lq_model.specs.SqlPart.{literal, name, object}
 use Rattle.lq_model.specs.SqlQuery.{query}
 use Rattle.lq_model.specs.SqlRows.{assignment, delete, insert, stated_columns, update}
-use Rattle.lq_model.specs.SqlStatement.{statement, statement_by}
 use Rattle.lq_model.specs.SqlTest.{where_test}
 use Rattle.lq_model.specs.SqlWord.{may_be_name}
 use Rattle.lq_model.specs.declared.statement.Statement.TheVariants.{CreateIndex, CreateSequence, CreateView, Delete, DropIndex, DropSequence, DropTable, DropView, Insert, Update}

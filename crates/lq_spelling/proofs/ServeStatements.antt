@@ -7,16 +7,14 @@ use Rattle.lq_base.specs.declared.dialect.Dialect.TheVariants.{Mysql, Postgresql
 use Rattle.lq_base.specs.declared.literal.Literal.{Literal}
 use Rattle.lq_base.specs.declared.literal.Literal.TheVariants as constant
 use Rattle.lq_base.specs.declared.name.Name.{Name}
-use Rattle.lq_model.specs.SqlAlter.{add, add_column, add_constraint, alter, alter_by, alter_column, alter_column_by, alter_sequence, alter_table, alter_table_by, alter_view, constraint_added, drop_part, drop_part_by, modify, new_name, rename_column, rename_part, rename_table_to, set_by, set_part, unset_by, unset_part}
-use Rattle.lq_model.specs.SqlColumn.{added_column}
+use Rattle.lq_model.specs.SqlAlter.{add, add_column, add_constraint, alter, alter_by, alter_column, alter_column_by, alter_sequence, alter_table, alter_table_by, alter_view, constraint_added, drop_part, drop_part_by, modify, new_name, rename_column, rename_part, rename_table_to, set_by, set_part, unset_by, unset_part, drop_index, drop_object, drop_object_by, rename_table}
+use Rattle.lq_model.specs.SqlTable.{added_column}
 use Rattle.lq_model.specs.SqlConstraint.{begins_constraint, table_constraint}
-use Rattle.lq_model.specs.SqlCreate.{create, create_by, create_index, create_sequence, create_view, step, whole, whole_of}
-use Rattle.lq_model.specs.SqlDrop.{drop_index, drop_object, drop_object_by, rename_table}
+use Rattle.lq_model.specs.SqlStatement.{create, create_by, create_index, create_sequence, create_view, step, whole, whole_of, statement, statement_by}
 use Rattle.lq_model.specs.SqlParser.{◌>>=◌, eat, enclosed, expect, pure, same_kind, sees, separated, skip}
 use Rattle.lq_model.specs.SqlPart.{column_kind, literal, name, object}
 use Rattle.lq_model.specs.SqlQuery.{query}
 use Rattle.lq_model.specs.SqlRows.{assignment, delete, insert, stated_columns, update}
-use Rattle.lq_model.specs.SqlStatement.{statement, statement_by}
 use Rattle.lq_model.specs.SqlTest.{where_test}
 use Rattle.lq_model.specs.declared.statement.Statement.TheVariants.{AddColumn, CreateIndex, CreateSequence, CreateView, Delete, DropColumn, DropConstraint, DropDefault, DropForeignKey, DropIndex, DropNotNull, DropPrimaryKey, DropSequence, DropTable, DropUnique, DropView, Insert, Modify, RenameColumn, RenameSequence, RenameTable, RenameView, SetDefault, SetNotNull, Update}
 use Rattle.lq_model.specs.declared.word.WordKind.{WordKind}

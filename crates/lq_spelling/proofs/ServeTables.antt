@@ -3,12 +3,11 @@ use Rattle.std.proofs.Common.{◌≡◌, true, false, if◌then◌else◌, [], �
 use Rattle.lq_base.specs.declared.dialect.Dialect.{Dialect}
 use Rattle.lq_base.specs.declared.dialect.Dialect.TheVariants.{Mysql, Postgresql}
 use Rattle.lq_base.specs.declared.name.Name.{Name}
-use Rattle.lq_model.specs.DefaultName.{foreign_name, key_name, unique_name}
-use Rattle.lq_model.specs.SqlColumn.{added_column, clause_by, column_clause, column_foreign, column_key, column_of, column_unique, column_with, differ, foreign_to, has_constraint, identity, stated_column, target}
+use Rattle.lq_model.specs.Sound.{foreign_name, key_name, unique_name}
+use Rattle.lq_model.specs.SqlTable.{added_column, clause_by, column_clause, column_foreign, column_key, column_of, column_unique, column_with, differ, foreign_to, has_constraint, identity, stated_column, target, column_item, create_table, table_item, table_of}
 use Rattle.lq_model.specs.SqlConstraint.{begins_constraint, constraint_by, foreign, key, key_name_or, name_or, on_delete, on_delete_by, stated_name, table_constraint, unique}
 use Rattle.lq_model.specs.SqlParser.{◌>>=◌, eat, enclosed, expect, given, many, pure, sees, skip}
 use Rattle.lq_model.specs.SqlPart.{column_kind, literal, name, name_of, object}
-use Rattle.lq_model.specs.SqlTable.{column_item, create_table, table_item, table_of}
 use Rattle.lq_model.specs.declared.table_item.ColumnClause.TheVariants as clause
 use Rattle.lq_model.specs.declared.table_item.StatedColumn.{StatedColumn}
 use Rattle.lq_model.specs.declared.table_item.TableConstraint.TheVariants as constraint

@@ -1,7 +1,7 @@
 -- Tests and queries over an unquoted word that is not reserved.
 use Rattle.std.proofs.Common.{◌≡◌, ℕ, zero, suc, Bool, true, false, nat_le, if◌then◌else◌, List, [], ◌∷◌, ◌++◌, ◌&&◌, Some, None, inl, ap, ◌∙◌, sym, refl}
 use Rattle.std.specs.List.{fold}
-use Rattle.lq_model.specs.Spelled.{levels}
+use Rattle.lq_model.specs.Comparison.{levels}
 use Rattle.lq_model.specs.SqlParser.{Parser, ◌>>=◌, and_then, eat, expect, led_by, many, pure, same_kind, sees, separated, skip}
 use Rattle.lq_model.specs.SqlPart.{literal, name, object}
 use Rattle.lq_model.specs.SqlQuery.{columns, count, peek_count, query, sees_count, selected}

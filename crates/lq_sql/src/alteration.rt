@@ -1,5 +1,5 @@
 ghost use Rattle.std.specs.Prelude.{◌≡◌, ◌++◌, OnOk};
-ghost use Rattle.lq_model.specs.Phrase.{words};
+ghost use Rattle.lq_model.specs.TestText.{words};
 ghost use Rattle.lq_model.specs.StatementText.{alter_column, alter_table, null_allowed, text_of};
 ghost use Rattle.lq_model.specs.declared.statement.Statement.TheVariants as made;
 

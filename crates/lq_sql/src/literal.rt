@@ -1,6 +1,5 @@
 ghost use Rattle.std.specs.Prelude.{◌≡◌, ◌++◌, OnOk};
-ghost use Rattle.lq_model.specs.Quoting.{string_text};
-ghost use Rattle.lq_model.specs.TestText.{literal_text};
+ghost use Rattle.lq_model.specs.TestText.{string_text, literal_text};
 
 use crate::spell::{Spell, Style, say};
 use lq_base::{Dialect, Literal, NoMemory, Text, append_fixed, append_whole};

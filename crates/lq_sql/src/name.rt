@@ -1,6 +1,5 @@
 ghost use Rattle.std.specs.Prelude.{◌≡◌, ◌++◌, OnOk};
-ghost use Rattle.lq_model.specs.Phrase.{words};
-ghost use Rattle.lq_model.specs.Quoting.{name_quote, name_text, quoted_text};
+ghost use Rattle.lq_model.specs.TestText.{words, name_quote, name_text, quoted_text};
 ghost use Rattle.lq_model.specs.StatementText.{to_text};
 
 use crate::spell::{Spell, Style, say};

@@ -1,6 +1,5 @@
 ghost use Rattle.std.specs.Prelude.{◌≡◌, ◌++◌, OnOk, Option, Some};
-ghost use Rattle.lq_model.specs.Phrase.{words};
-ghost use Rattle.lq_model.specs.Quoting.{name_text};
+ghost use Rattle.lq_model.specs.TestText.{words, name_text};
 ghost use Rattle.lq_model.specs.StatementText.{create_index, create_view, text_of, to_text};
 ghost use Rattle.lq_model.specs.declared.phrase.Phrase.TheVariants as phrase;
 ghost use Rattle.lq_model.specs.declared.statement.Statement.TheVariants as made;

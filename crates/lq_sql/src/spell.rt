@@ -1,7 +1,6 @@
 ghost use Rattle.std.specs.Prelude.{◌≡◌, ◌++◌, map, OnOk};
-ghost use Rattle.lq_model.specs.Phrase.{words};
+ghost use Rattle.lq_model.specs.TestText.{words, after_commas, listed};
 ghost use Rattle.lq_model.specs.StatementText.{words_if};
-ghost use Rattle.lq_model.specs.TestText.{after_commas, listed};
 
 use lq_base::{Dialect, NoMemory, Text};
 use lq_model::Phrase;

@@ -4,10 +4,9 @@ use Rattle.std.specs.List.{list_all, list_any}
 use Rattle.std.specs.Str.{IsUtf8, is_utf8}
 use Rattle.std.proofs.lemmas.Bool.{and_from, and_parts}
 use Rattle.std.proofs.lemmas.Str.{IsUtf8-from_is_utf8, is_utf8-from_IsUtf8}
-use Rattle.lq_sqlfile.specs.File.{AreLines, AreParts, AreSets, IsSet, is_heading, is_idle}
+use Rattle.lq_sqlfile.specs.File.{AreLines, AreParts, AreSets, IsSet, is_heading, is_idle, begun, closed, closed_all, put_before, read_from, read_on, take_inside, take_line, take_part, text_in, with_part}
 use Rattle.lq_sqlfile.specs.Lines.{part_of}
 use Rattle.lq_sqlfile.specs.Made.{IsPart}
-use Rattle.lq_sqlfile.specs.Machine.{begun, closed, closed_all, put_before, read_from, read_on, take_inside, take_line, take_part, text_in, with_part}
 use Rattle.lq_sqlfile.specs.declared.draft.Draft.{Draft}
 use Rattle.lq_sqlfile.specs.declared.file.SqlSet.{SqlSet}
 use Rattle.lq_sqlfile.specs.declared.part.Heading.{Heading}

@@ -3,7 +3,7 @@ use Rattle.std.proofs.Common.{◌≡◌, ◌<◌, ◌≤◌, ◌==◌, Bool, IfS
 use Rattle.lq_base.specs.Kind.{is_blank, is_no_blank}
 use Rattle.lq_sqlfile.specs.Words.{after, has_name, known}
 use Rattle.lq_sqlfile.specs.Cuts.{apart, cut_at, from, is_ended, longer, without_blanks}
-use Rattle.lq_sqlfile.specs.Pairs.{attributes, new_pair, pair, quoted, value, value_by}
+use Rattle.lq_sqlfile.specs.Lines.{attributes, new_pair, pair, quoted, value, value_by}
 
 -- ---- what is left is shorter
 

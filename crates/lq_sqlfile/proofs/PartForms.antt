@@ -5,9 +5,8 @@ use Rattle.std.proofs.lemmas.Bool.{and_from, and_parts, eqb-true}
 use Rattle.lq_base.specs.Kind.{is_blank, is_no_blank}
 use Rattle.lq_sqlfile.specs.Words.{after, attribute_words, condition_words, directive_of, has_name, is_word, known, plain_part}
 use Rattle.lq_sqlfile.specs.Cuts.{apart, behind_word, cut_at, from, is_ended, until, without_blanks, word}
-use Rattle.lq_sqlfile.specs.Lines.{check, conditions, heading, marked, meaning, part_behind, part_by, part_of, some_conditions}
+use Rattle.lq_sqlfile.specs.Lines.{check, conditions, heading, marked, meaning, part_behind, part_by, part_of, some_conditions, attributes, attributes_in, new_pair, pair, quoted, value, value_by}
 use Rattle.lq_sqlfile.specs.Made.{AreAttributes, AreBlanks, AreConditions, IsCheck, IsGap, IsHeading, IsMarked, IsPair, IsPart, IsUnmarked, IsValue, Lacks, LacksMark, Says, begins_plain}
-use Rattle.lq_sqlfile.specs.Pairs.{attributes, attributes_in, new_pair, pair, quoted, value, value_by}
 use Rattle.lq_sqlfile.specs.declared.part.Directive.{Directive}
 use Rattle.lq_sqlfile.specs.declared.part.Directive.TheVariants as directive
 use Rattle.lq_sqlfile.specs.declared.part.Part.{Part}

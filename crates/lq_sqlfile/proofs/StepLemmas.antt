@@ -1,8 +1,7 @@
 -- One line after another.
 use Rattle.std.proofs.Common.{◌≡◌, ◌∙◌, ◌+◌, Bool, true, false, cond, List, [], ◌∷◌, ◌++◌, Option, Some, None, option_map, option_and_then, Result, Ok, Err, ℕ, refl, sym, ap, subst, append-nil, append_assoc}
-use Rattle.lq_sqlfile.specs.File.{is_idle}
+use Rattle.lq_sqlfile.specs.File.{is_idle, begun, closed_all, put_before, read_from, read_on, take_inside, take_line, take_part, text_in, with_part}
 use Rattle.lq_sqlfile.specs.Lines.{part_of}
-use Rattle.lq_sqlfile.specs.Machine.{begun, closed_all, put_before, read_from, read_on, take_inside, take_line, take_part, text_in, with_part}
 use Rattle.lq_sqlfile.specs.View.{Takes}
 use Rattle.lq_sqlfile.specs.declared.draft.Draft.{Draft}
 use Rattle.lq_sqlfile.specs.declared.file.SqlSet.{SqlSet}

@@ -4,11 +4,9 @@ use Rattle.std.specs.Str.{IsUtf8, is_utf8}
 use Rattle.std.proofs.lemmas.Str.{IsUtf8-from_is_utf8, is_utf8-from_IsUtf8}
 use Rattle.lq_sqlfile.specs.Words.{is_word, value_of}
 use Rattle.lq_sqlfile.specs.Cuts.{behind_word, word}
-use Rattle.lq_sqlfile.specs.File.{HasHeader, IsFile, IsWrong}
-use Rattle.lq_sqlfile.specs.Lines.{behind_this, header, header_rest, marked}
+use Rattle.lq_sqlfile.specs.File.{HasHeader, IsFile, IsWrong, file_behind, file_of, file_with, read_from, text_in}
+use Rattle.lq_sqlfile.specs.Lines.{behind_this, header, header_rest, marked, attributes_in}
 use Rattle.lq_sqlfile.specs.Made.{IsBehind, IsHeader, IsMarked}
-use Rattle.lq_sqlfile.specs.Machine.{file_behind, file_of, file_with, read_from, text_in}
-use Rattle.lq_sqlfile.specs.Pairs.{attributes_in}
 use Rattle.lq_sqlfile.specs.View.{Gives}
 use Rattle.lq_sqlfile.specs.declared.fault.SqlFault.{SqlFault}
 use Rattle.lq_sqlfile.specs.declared.fault.SqlFault.TheVariants.{NoHeader, Line, OutOfMemory}

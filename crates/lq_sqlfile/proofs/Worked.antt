@@ -2,9 +2,8 @@
 use Rattle.std.proofs.Common.{◌≡◌, ℕ, List, Option, Some, None, refl}
 use Rattle.lq_sqlfile.specs.Words.{after, attribute_words, directive_of, is_word}
 use Rattle.lq_sqlfile.specs.Cuts.{cut_at, from, until}
-use Rattle.lq_sqlfile.specs.Examples.{HeaderExamples, IsWrongLine, LineExamples}
-use Rattle.lq_sqlfile.specs.Lines.{behind_this, check, conditions, header, heading, marked, part_of}
-use Rattle.lq_sqlfile.specs.Pairs.{attributes, new_pair, pair, value}
+use Rattle.lq_sqlfile.specs.Made.{HeaderExamples, IsWrongLine, LineExamples}
+use Rattle.lq_sqlfile.specs.Lines.{behind_this, check, conditions, header, heading, marked, part_of, attributes, new_pair, pair, value}
 use Rattle.lq_sqlfile.specs.declared.part.Part.{Part}
 use Rattle.lq_sqlfile.proofs.PartForms.{part_found, part_made}
 use Rattle.lq_sqlfile.proofs.WholeForms.{header_made}

@@ -1,5 +1,5 @@
 -- Texts cut at the first byte of a sort.
-use Rattle.std.specs.Prelude.{ℕ, ◌==◌, Bool, true, List, [], ◌∷◌, Option, Some, None, option_map, if◌then◌else◌}
+use Rattle.std.specs.Prelude.{Bool, List, None, Option, Some, [], if◌then◌else◌, option_map, true, ℕ, ◌==◌, ◌∷◌}
 use Rattle.lq_base.specs.Kind.{is_blank, is_no_blank}
 
 -- what stands before the first byte that passes, or all where none does

@@ -1,10 +1,6 @@
 pub mod Cuts
-pub mod Examples
-pub mod File
-pub mod Laws
-pub mod Lines
-pub mod Machine
-pub mod Made
-pub mod Pairs
-pub mod View
 pub mod Words
+pub mod Lines
+pub mod Made
+pub mod File
+pub mod View

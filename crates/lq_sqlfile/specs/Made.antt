@@ -1,12 +1,13 @@
 -- What the lines of formatted SQL are made of, and what they say. A text is its bytes in UTF-8.
-use Rattle.std.specs.Prelude.{◌≡◌, ℕ, ◌==◌, ◌&&◌, not, Bool, true, false, is_some, ◌⊎◌, List, [], ◌∷◌, ◌++◌, Option, Some, None, codes}
 use Rattle.std.specs.List.{list_all}
+use Rattle.std.specs.Prelude.{Bool, List, None, Option, Some, [], codes, false, is_some, not, true, ℕ, ◌&&◌, ◌++◌, ◌==◌, ◌∷◌, ◌≡◌, ◌⊎◌}
 use Rattle.lq_base.specs.Kind.{is_blank}
 use Rattle.lq_sqlfile.specs.Words.{after, attribute_words, condition_words, directive_of, has_name, is_word, known, plain_part, value_of}
 use Rattle.lq_sqlfile.specs.declared.part.Directive.{Directive}
 use Rattle.lq_sqlfile.specs.declared.part.Directive.TheVariants as directive
 use Rattle.lq_sqlfile.specs.declared.part.Part.{Part}
 use Rattle.lq_sqlfile.specs.declared.part.Part.TheVariants as part
+use Rattle.lq_sqlfile.specs.declared.part.Part.TheVariants.{Body, ChangeSet, Check, Comment, Conditions, Note, Rollback}
 
 -- ---- words and blanks
 
@@ -106,3 +107,39 @@ IsHeader line logical =
     (name second third pairs : List ℕ) × (given : List (List ℕ × List ℕ)) × IsMarked line name second × (is_word name (codes "liquibase") ≡ true)
     × IsBehind (codes "formatted") second third × IsBehind (codes "sql") third pairs
     × AreAttributes (codes "logicalFilePath" ∷ []) [] pairs given × (logical ≡ value_of (codes "logicalFilePath") given)
+
+-- Lines and what they say, each form once.
+
+-- the line says nothing that a file may say
+abbrev pub IsWrongLine : List ℕ → Type 0
+IsWrongLine line = (said : Part) → ¬ (IsPart line said)
+
+pub record LineExamples : Type 0 where
+  pub heading : IsPart (codes "--changeset bob:1") (ChangeSet (record { author = codes "bob"; id = codes "1"; attributes = [] }))
+  -- any case, blanks before and behind `--`, an author of two words, quotes, an empty value
+  pub attributes : IsPart (codes "  -- ChangeSet Bob Ro:a-1  DBMS:  context:\"a and b\" ")
+      (ChangeSet (record { author = codes "Bob Ro"; id = codes "a-1"; attributes = (codes "dbms", []) ∷ (codes "context", codes "a and b") ∷ [] }))
+  pub comment : IsPart (codes "--comment: first") (Comment (codes "first"))
+  pub no_comment : IsPart (codes "--comment") (Comment [])
+  pub conditions : IsPart (codes "--preconditions onError:WARN onFail:MARK_RAN") (Conditions ((codes "onError", codes "WARN") ∷ (codes "onFail", codes "MARK_RAN") ∷ []))
+  pub check : IsPart (codes "--precondition-sql-check expectedResult:0 SELECT COUNT(*) FROM t") (Check (codes "0") (codes "SELECT COUNT(*) FROM t"))
+  pub rollback : IsPart (codes "--rollback   DROP TABLE t ") (Rollback (codes "DROP TABLE t "))
+  pub no_rollback : IsPart (codes "--rollback") (Rollback [])
+  pub note : IsPart (codes "-- a note") Note
+  pub longer_word : IsPart (codes "--changesets bob:1") Note
+  pub indented : IsPart (codes " -- a note") (Body (codes " -- a note"))
+  pub body : IsPart (codes "SELECT 1 -- one") (Body (codes "SELECT 1 -- one"))
+  pub empty : IsPart [] (Body [])
+  pub no_colon : IsWrongLine (codes "--changeset bob")
+  pub unknown : IsWrongLine (codes "--changeset bob:1 colour:red")
+  pub twice : IsWrongLine (codes "--changeset bob:1 dbms:a DBMS:b")
+  pub open_quote : IsWrongLine (codes "--changeset bob:1 dbms:\"a")
+  pub behind_quote : IsWrongLine (codes "--changeset bob:1 dbms:\"a\"b")
+  pub no_pair : IsWrongLine (codes "--preconditions")
+  pub no_result : IsWrongLine (codes "--precondition-sql-check SELECT 1")
+  pub other_condition : IsWrongLine (codes "--precondition-table-exists t")
+
+pub record HeaderExamples : Type 0 where
+  pub plain : IsHeader (codes "--liquibase formatted sql") None
+  pub spaced : IsHeader (codes " -- LiquiBase  Formatted SQL ") None
+  pub path : IsHeader (codes "--liquibase formatted sql logicalFilePath:\"a b.sql\"") (Some (codes "a b.sql"))

@@ -1,5 +1,5 @@
 -- The words of formatted SQL, and what they ask for.
-use Rattle.std.specs.Prelude.{ℕ, ◌==◌, Bool, false, is_some, nat_le, ◌&&◌, ◌||◌, length, List, [], ◌∷◌, take, Option, Some, None, codes, if◌then◌else◌}
+use Rattle.std.specs.Prelude.{Bool, List, None, Option, Some, [], codes, false, if◌then◌else◌, is_some, length, nat_le, take, ℕ, ◌&&◌, ◌==◌, ◌||◌, ◌∷◌}
 use Rattle.std.specs.Str.{bytes_eq, str_eq_ignore_ascii_case}
 use Rattle.lq_sqlfile.specs.declared.part.Directive.{Directive}
 use Rattle.lq_sqlfile.specs.declared.part.Directive.TheVariants as directive

@@ -2,7 +2,7 @@ ghost use Rattle.std.specs.Prelude.{◌≡◌, [], ◌∷◌, ◌++◌, IfOk, op
 ghost use Rattle.std.specs.List.{list_all};
 ghost use Rattle.lq_base.specs.Kind.{is_blank};
 ghost use Rattle.lq_sqlfile.specs.Words.{value_of};
-ghost use Rattle.lq_sqlfile.specs.Machine.{begun, conditions_value, joined_with, with_line, with_part, closed};
+ghost use Rattle.lq_sqlfile.specs.File.{begun, conditions_value, joined_with, with_line, with_part, closed};
 
 use crate::cuts::without_blanks;
 use crate::file::SqlSet;

@@ -1,5 +1,5 @@
-ghost use Rattle.lq_sqlfile.specs.Examples.{HeaderExamples, LineExamples};
-ghost use Rattle.lq_sqlfile.specs.Laws.{FilesMeanOne, PartsAreFound, SetsAreFound};
+ghost use Rattle.lq_sqlfile.specs.Made.{HeaderExamples, LineExamples};
+ghost use Rattle.lq_sqlfile.specs.File.{FilesMeanOne, PartsAreFound, SetsAreFound};
 
 // What a line says is what the reader finds in it.
 fn parts()

@@ -1,7 +1,6 @@
 ghost use Rattle.std.specs.Prelude.{◌≡◌, IfOk, option_map};
 ghost use Rattle.lq_sqlfile.specs.Words.{attribute_words, directive_of, is_other_condition, is_word, plain_part};
-ghost use Rattle.lq_sqlfile.specs.Pairs.{attributes_in};
-ghost use Rattle.lq_sqlfile.specs.Lines.{marked, heading, conditions, check, meaning, part_of, behind_this, header, header_rest};
+ghost use Rattle.lq_sqlfile.specs.Lines.{attributes_in, marked, heading, conditions, check, meaning, part_of, behind_this, header, header_rest};
 
 use crate::cuts::{after, behind_word, cut_at, cut_word, is_word, without_blanks};
 use crate::draft::value_of;

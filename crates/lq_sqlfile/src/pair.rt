@@ -1,6 +1,6 @@
 ghost use Rattle.std.specs.Prelude.{◌≡◌, ◌≤◌, ℕ, IfOk, length, map, option_map};
 ghost use Rattle.lq_sqlfile.specs.Words.{has_name, known};
-ghost use Rattle.lq_sqlfile.specs.Pairs.{quoted, value, pair, new_pair, attributes_in};
+ghost use Rattle.lq_sqlfile.specs.Lines.{quoted, value, pair, new_pair, attributes_in};
 
 use crate::cuts::{after, apart, behind_word, cut_at, cut_word, is_word};
 use lq_base::{Items, NoMemory, Text};

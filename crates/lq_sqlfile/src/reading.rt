@@ -1,11 +1,10 @@
 ghost use Rattle.std.specs.Prelude.{◌≡◌, ◌<◌, ◌≤◌, ◌^◌, ◌++◌, Ok, Err, IfOk, OnOk, None, option_map, option_and_then, length, ◌⊎◌, ℕ, [], ◌∷◌};
 ghost use Rattle.std.specs.Str.{is_utf8};
 ghost use Rattle.std.specs.Str.Lines.{lines, strip_carriage_return};
-ghost use Rattle.lq_sqlfile.specs.File.{HasHeader, IsFile, IsWrong, is_idle};
+ghost use Rattle.lq_sqlfile.specs.File.{HasHeader, IsFile, IsWrong, is_idle, closed, closed_all, take_inside, take_part, take_line, text_in, read_from, file_of};
 ghost use Rattle.lq_sqlfile.specs.Lines.{header};
 ghost use Rattle.lq_sqlfile.specs.declared.fault.SqlFault.TheVariants.{NoHeader, Line, OutOfMemory};
 ghost use Rattle.lq_sqlfile.specs.declared.file.SqlFile.{SqlFile};
-ghost use Rattle.lq_sqlfile.specs.Machine.{closed, closed_all, take_inside, take_part, take_line, text_in, read_from, file_of};
 ghost use Rattle.lq_sqlfile.specs.View.{Gives, GivesSets, Takes, IsNext};
 
 use crate::draft::{Draft, are_blanks};

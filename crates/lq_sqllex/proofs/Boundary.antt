@@ -3,7 +3,7 @@ use Rattle.std.proofs.Common.{◌≡◌, ◌≤◌, ◌<◌, ℕ, ◌+◌, true,
 use Rattle.std.specs.Str.{IsUtf8, IsCharBoundary}
 use Rattle.std.proofs.lemmas.List.{get_or-drop, take_at}
 use Rattle.std.proofs.lemmas.Str.{IsCharBoundary-start, IsCharBoundary-from_take, IsCharBoundary-from_rest, IsUtf8-drop}
-use Rattle.lq_base.specs.SqlByte.{begins}
+use Rattle.lq_base.specs.Sql.{begins}
 use Rattle.lq_sqllex.proofs.PieceSteps.{begins_with}
 
 front_byte : (delimiter rest : List ℕ) → 0 < length delimiter → get_or (delimiter ++ rest) 0 0 ≡ get_or delimiter 0 0

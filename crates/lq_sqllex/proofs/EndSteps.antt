@@ -1,8 +1,7 @@
 -- The steps of a walk to the end of a quoted part or a comment, of which some bytes are passed.
 use Rattle.std.proofs.Common.{◌≡◌, ◌≤◌, ℕ, suc, ◌+◌, ◌-◌, ◌==◌, Bool, true, false, if◌then◌else◌, List, [], ◌∷◌, length, take, drop, get_or, Option, Some, None, ◌∙◌, sym, refl, ap, arith}
 use Rattle.std.proofs.lemmas.List.{take_rest}
-use Rattle.lq_base.specs.SqlComment.{closes, opens, comment_end}
-use Rattle.lq_base.specs.SqlQuoted.{after, is_pair, quoted_end}
+use Rattle.lq_base.specs.Sql.{closes, opens, comment_end, after, is_pair, quoted_end}
 
 pub after_more : (n m : ℕ) (o : Option ℕ) → after n (after m o) ≡ after (n + m) o
 after_more n m None = refl

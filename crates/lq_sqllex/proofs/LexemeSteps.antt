@@ -3,8 +3,7 @@ use Rattle.std.proofs.Common.{◌≡◌, ◌<◌, ◌≤◌, List, ℕ, ◌∷�
 use Rattle.std.specs.Prelude.{option_map}
 use Rattle.std.proofs.lemmas.List.{take_at, drop_at}
 use Rattle.lq_base.specs.declared.dialect.Dialect.{Dialect}
-use Rattle.lq_base.specs.SqlLexeme.{sort_at, length_at, lexeme_at, lexemes}
-use Rattle.lq_base.specs.Units.{units}
+use Rattle.lq_base.specs.Sql.{sort_at, length_at, lexeme_at, lexemes, units}
 use Rattle.lq_sqllex.proofs.UnitSteps.{units_front, units_open}
 
 pub lexemes_open : (d : Dialect) (text : List ℕ) → 0 < length text → length_at d text ≡ None → lexemes d text ≡ None

@@ -1,9 +1,8 @@
 -- A whole comment inside another is passed over.
 use Rattle.std.proofs.Common.{◌≡◌, ℕ, zero, suc, ◌+◌, true, false, if◌then◌else◌, List, [], ◌∷◌, ◌++◌, length, drop, Option, Some, None, ◌∙◌, ap, sym, subst, refl, arith}
 use Rattle.std.specs.Prelude.{codes}
-use Rattle.lq_base.specs.SqlComment.{closes, opens, comment_end, comment_length}
+use Rattle.lq_base.specs.Sql.{closes, opens, comment_end, comment_length, after}
 use Rattle.lq_sqllex.specs.Laws.{CommentsNest}
-use Rattle.lq_base.specs.SqlQuoted.{after}
 use Rattle.lq_sqllex.proofs.EndSteps.{after_more}
 use Rattle.lq_sqllex.proofs.PieceSteps.{begins_with}
 

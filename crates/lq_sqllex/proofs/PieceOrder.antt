@@ -7,7 +7,7 @@ use Rattle.std.proofs.lemmas.Option.{option_and_then_some}
 use Rattle.lq_base.specs.declared.dialect.Dialect.{Dialect}
 use Rattle.lq_sqllex.specs.Laws.{PiecesGoOn}
 use Rattle.lq_sqllex.specs.Pieces.{unit_at, onto, between, cut}
-use Rattle.lq_base.specs.Units.{units}
+use Rattle.lq_base.specs.Sql.{units}
 use Rattle.lq_sqllex.proofs.UnitSteps.{units_begun}
 use Rattle.lq_sqllex.proofs.WholeText.{map_some, IsUnit, unit_is}
 

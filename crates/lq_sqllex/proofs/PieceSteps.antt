@@ -7,9 +7,7 @@ use Rattle.std.proofs.lemmas.List.Elements.{filter-append}
 use Rattle.std.proofs.lemmas.Bool.Decides.{Decides-eqb}
 use Rattle.std.proofs.lemmas.Slice.Eq.{starts_is}
 use Rattle.lq_base.specs.declared.dialect.Dialect.{Dialect}
-use Rattle.lq_base.specs.SqlByte.{begins}
-use Rattle.lq_base.specs.SqlLexeme.{sort_at, is_trivia}
-use Rattle.lq_base.specs.Units.{units}
+use Rattle.lq_base.specs.Sql.{begins, sort_at, is_trivia, units}
 use Rattle.lq_sqllex.specs.Pieces.{is_enclosed, is_delimited, together, unit_at, onto, between, cut, kept, pieces}
 use Rattle.lq_sqllex.proofs.UnitSteps.{units_front, units_open}
 

@@ -6,8 +6,7 @@ use Rattle.lq_base.specs.declared.dialect.Dialect.TheVariants.{Postgresql, Mysql
 use Rattle.lq_base.specs.declared.lexeme.LexemeSort.{LexemeSort}
 use Rattle.lq_base.specs.declared.lexeme.LexemeSort.TheVariants.{Name, Text}
 use Rattle.lq_sqllex.specs.Laws.{doubled, in_quotes, IsRead, TextsAreRead, NamesAreRead}
-use Rattle.lq_base.specs.SqlLexeme.{sort_at, length_of, length_at}
-use Rattle.lq_base.specs.SqlQuoted.{after, is_pair, quoted_end, quoted_length}
+use Rattle.lq_base.specs.Sql.{sort_at, length_of, length_at, after, is_pair, quoted_end, quoted_length}
 
 -- the closing quote
 closed : (escaping : Bool) (quote : ℕ) (rest : List ℕ) → (escaping && quote == 92) ≡ false → (slice_index rest 0 == quote) ≡ false → quoted_end escaping quote (quote ∷ rest) ≡ Some 1

@@ -7,8 +7,7 @@ use Rattle.std.proofs.lemmas.List.{drop-drop, take-append-drop, take_rest}
 use Rattle.std.proofs.lemmas.Bool.Decides.{Decides-eqb}
 use Rattle.std.proofs.lemmas.Slice.Eq.{starts_is}
 use Rattle.lq_base.specs.declared.dialect.Dialect.{Dialect}
-use Rattle.lq_base.specs.SqlByte.{begins}
-use Rattle.lq_base.specs.SqlLexeme.{sort_at}
+use Rattle.lq_base.specs.Sql.{begins, sort_at}
 use Rattle.lq_sqllex.specs.Pieces.{is_enclosed, is_delimited, together}
 use Rattle.lq_sqllex.proofs.PieceSteps.{begins_with}
 

@@ -5,7 +5,7 @@ use Rattle.std.specs.List.{list_all}
 use Rattle.std.specs.Option.{option_map_or}
 use Rattle.lq_base.specs.declared.dialect.Dialect.{Dialect}
 use Rattle.lq_base.specs.declared.lexeme.LexemeSort.{LexemeSort}
-use Rattle.lq_base.specs.SqlLexeme.{lexemes, is_trivia_sort, is_trivia}
+use Rattle.lq_base.specs.Sql.{lexemes, is_trivia_sort, is_trivia}
 
 abbrev all_trivia : Option (List (LexemeSort × List ℕ)) → Bool
 all_trivia found = option_map_or (list_all (λ lexeme. is_trivia_sort lexeme.0)) found false

@@ -1,7 +1,7 @@
 -- How the units of a text follow from its front.
 use Rattle.std.proofs.Common.{◌≡◌, ◌≤◌, ◌<◌, ℕ, zero, suc, ◌-◌, List, [], ◌∷◌, length, take, drop, Option, Some, None, ◌∙◌, ap, sym, refl, arith}
 use Rattle.std.specs.Prelude.{option_map}
-use Rattle.lq_base.specs.Units.{units}
+use Rattle.lq_base.specs.Sql.{units}
 
 pub units_begun : {A : Type 0} (front : List ℕ → Option (A × ℕ)) (begun : ℕ) (text : List ℕ) → begun ≤ length text
     → units front begun text ≡ units front 0 (drop begun text)

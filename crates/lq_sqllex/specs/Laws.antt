@@ -1,14 +1,11 @@
 -- What holds of the definitions.
-use Rattle.std.specs.Prelude.{◌≡◌, ◌<◌, ◌≤◌, ℕ, suc, ◌+◌, ◌==◌, ◌&&◌, ◌||◌, Bool, true, false, if◌then◌else◌, List, [], ◌∷◌, ◌++◌, length, drop, slice_index, Some, option_map, All, codes}
 use Rattle.std.specs.List.{flat_map}
+use Rattle.std.specs.Prelude.{All, Bool, List, Some, [], codes, drop, false, if◌then◌else◌, length, option_map, slice_index, suc, true, ℕ, ◌&&◌, ◌++◌, ◌+◌, ◌<◌, ◌==◌, ◌||◌, ◌∷◌, ◌≡◌, ◌≤◌}
+use Rattle.lq_base.specs.Sql.{after, begins, comment_end, comment_length, escapes, is_name_quote, is_text_quote, is_trivia, length_at, lexemes, sort_at}
 use Rattle.lq_base.specs.declared.dialect.Dialect.{Dialect}
 use Rattle.lq_base.specs.declared.lexeme.LexemeSort.{LexemeSort}
 use Rattle.lq_base.specs.declared.lexeme.LexemeSort.TheVariants.{Name, Text}
-use Rattle.lq_base.specs.SqlByte.{begins, is_text_quote, is_name_quote, escapes}
-use Rattle.lq_base.specs.SqlComment.{comment_end, comment_length}
-use Rattle.lq_base.specs.SqlLexeme.{sort_at, length_at, lexemes, is_trivia}
-use Rattle.lq_sqllex.specs.Pieces.{is_enclosed, cut, pieces}
-use Rattle.lq_base.specs.SqlQuoted.{after}
+use Rattle.lq_sqllex.specs.Pieces.{cut, is_enclosed, pieces}
 
 -- the lexemes of a text, one after the other, are the text
 abbrev pub LexemesAreTheText : Type 0

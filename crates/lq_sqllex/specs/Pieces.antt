@@ -1,11 +1,9 @@
 -- A text cut into pieces at a delimiter.
-use Rattle.std.specs.Prelude.{ℕ, not, ◌&&◌, Bool, true, false, if◌then◌else◌, List, [], ◌∷◌, ◌++◌, length, filter, Option, Some, option_map}
+use Rattle.std.specs.Prelude.{Bool, List, Option, Some, [], false, filter, if◌then◌else◌, length, not, option_map, true, ℕ, ◌&&◌, ◌++◌, ◌∷◌}
+use Rattle.lq_base.specs.Sql.{begins, is_trivia, length_at, sort_at, units}
 use Rattle.lq_base.specs.declared.dialect.Dialect.{Dialect}
 use Rattle.lq_base.specs.declared.lexeme.LexemeSort.{LexemeSort}
-use Rattle.lq_base.specs.declared.lexeme.LexemeSort.TheVariants.{LineComment, BlockComment, Name, Text}
-use Rattle.lq_base.specs.SqlByte.{begins}
-use Rattle.lq_base.specs.SqlLexeme.{sort_at, length_at, is_trivia}
-use Rattle.lq_base.specs.Units.{units}
+use Rattle.lq_base.specs.declared.lexeme.LexemeSort.TheVariants.{BlockComment, LineComment, Name, Text}
 
 -- strings, quoted names and comments, in which no delimiter counts
 abbrev pub is_enclosed : LexemeSort → Bool

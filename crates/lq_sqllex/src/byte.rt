@@ -1,5 +1,5 @@
 ghost use Rattle.std.specs.Prelude.{◌≡◌, slice_index, drop};
-ghost use Rattle.lq_base.specs.SqlByte.{begins, is_blank, is_word_byte, is_number_byte, is_text_quote, is_name_quote, escapes, nests};
+ghost use Rattle.lq_base.specs.Sql.{begins, is_blank, is_word_byte, is_number_byte, is_text_quote, is_name_quote, escapes, nests};
 
 use lq_base::Dialect;
 

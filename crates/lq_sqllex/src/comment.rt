@@ -1,5 +1,5 @@
 ghost use Rattle.std.specs.Prelude.{◌≡◌, ◌<◌, ◌≤◌, length, IfSome};
-ghost use Rattle.lq_base.specs.SqlComment.{begins_line_comment, begins_block_comment, closes, opens, comment_end, comment_length};
+ghost use Rattle.lq_base.specs.Sql.{begins_line_comment, begins_block_comment, closes, opens, comment_end, comment_length};
 
 use crate::byte::{begins, byte_at, from, is_blank};
 use crate::quoted::after;

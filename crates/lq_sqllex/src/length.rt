@@ -1,6 +1,6 @@
 ghost use Rattle.std.specs.Prelude.{◌≡◌, ◌+◌, ◌<◌, ◌≤◌, length, drop, IfSome};
 ghost use Rattle.std.specs.List.{prefix_len};
-ghost use Rattle.lq_base.specs.SqlLexeme.{mark_length, goes_on, length_of, length_at};
+ghost use Rattle.lq_base.specs.Sql.{mark_length, goes_on, length_of, length_at};
 
 use crate::byte::{begins, escapes, from, is_blank, is_number_byte, is_word_byte, nests};
 use crate::comment::comment_length;

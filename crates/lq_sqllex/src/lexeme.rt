@@ -1,5 +1,5 @@
 ghost use Rattle.std.specs.Prelude.{◌≡◌, ◌∷◌, ◌++◌, ◌<◌, length, None, Some, IfSome, option_map};
-ghost use Rattle.lq_base.specs.SqlLexeme.{sort_at, length_at, lexemes};
+ghost use Rattle.lq_base.specs.Sql.{sort_at, length_at, lexemes};
 
 use crate::length::length_at;
 use crate::sort::sort_at;

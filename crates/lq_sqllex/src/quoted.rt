@@ -1,5 +1,5 @@
 ghost use Rattle.std.specs.Prelude.{◌≡◌, ◌+◌, ◌<◌, ◌≤◌, ◌^◌, length, IfSome};
-ghost use Rattle.lq_base.specs.SqlQuoted.{after, is_pair, quoted_end, quoted_length};
+ghost use Rattle.lq_base.specs.Sql.{after, is_pair, quoted_end, quoted_length};
 
 use crate::byte::{byte_at, from};
 

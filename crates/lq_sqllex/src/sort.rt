@@ -1,5 +1,5 @@
 ghost use Rattle.std.specs.Prelude.{◌≡◌};
-ghost use Rattle.lq_base.specs.SqlLexeme.{begins_number, plain_sort, sort_at};
+ghost use Rattle.lq_base.specs.Sql.{begins_number, plain_sort, sort_at};
 
 use crate::byte::{byte_at, is_blank, is_name_quote, is_text_quote, is_word_byte};
 use crate::comment::{begins_block_comment, begins_line_comment};

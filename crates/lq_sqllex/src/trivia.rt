@@ -1,5 +1,5 @@
 ghost use Rattle.std.specs.Prelude.{◌≡◌};
-ghost use Rattle.lq_base.specs.SqlLexeme.{is_trivia_sort, is_trivia};
+ghost use Rattle.lq_base.specs.Sql.{is_trivia_sort, is_trivia};
 
 use crate::lexeme::lexeme_at;
 use lq_base::{Dialect, LexemeSort};

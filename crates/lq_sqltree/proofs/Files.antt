@@ -2,8 +2,7 @@
 use Rattle.std.proofs.Common.{◌≡◌, ◌∙◌, ◌⊎◌, List, Option, Some, None, [], ◌∷◌, option_and_then, Result, Ok, Err, IfOk, ℕ, ap, inl, inr, refl, sym}
 use Rattle.std.specs.Str.Lines.{lines}
 use Rattle.lq_sqlfile.specs.Lines.{header}
-use Rattle.lq_sqlfile.specs.File.{HasHeader, IsFile, IsWrong}
-use Rattle.lq_sqlfile.specs.Machine.{file_behind, file_of, file_with, read_from, text_in}
+use Rattle.lq_sqlfile.specs.File.{HasHeader, IsFile, IsWrong, file_behind, file_of, file_with, read_from, text_in}
 use Rattle.lq_sqlfile.specs.View.{Gives}
 use Rattle.lq_sqlfile.specs.declared.fault.SqlFault.{SqlFault}
 use Rattle.lq_sqlfile.specs.declared.fault.SqlFault.TheVariants as sql

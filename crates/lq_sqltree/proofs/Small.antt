@@ -6,7 +6,7 @@ use Rattle.std.specs.List.{filter, list_all}
 use Rattle.std.specs.Prelude.{Bool, Err, IfOk, List, None, Ok, Option, Result, Some, [], codes, if◌then◌else◌, map, refl, true, false, ℕ, ◌++◌, ◌∷◌, ◌≡◌}
 use Rattle.std.specs.Fmt.{decimal}
 use Rattle.std.specs.Str.Lines.{lines}
-use Rattle.lq_sqlfile.specs.Machine.{file_of}
+use Rattle.lq_sqlfile.specs.File.{file_of}
 use Rattle.lq_sqlfile.specs.declared.fault.SqlFault.{SqlFault}
 use Rattle.lq_sqlfile.specs.declared.file.SqlFile.{SqlFile}
 use Rattle.lq_sqlfile.specs.declared.file.SqlSet.{SqlSet}

@@ -7,12 +7,10 @@ use Rattle.std.proofs.lemmas.Str.{IsUtf8-from_ascii, is_utf8-from_IsUtf8}
 use Rattle.std.proofs.lemmas.Str.Ascii.{IsAscii-cons, IsAscii-nil}
 use Rattle.std.specs.Str.{IsAscii, is_utf8}
 use Rattle.lq_sqlfile.specs.Cuts.{cut_at, from, until}
-use Rattle.lq_sqlfile.specs.Lines.{behind_this, check, conditions, header, heading, marked, part_of}
-use Rattle.lq_sqlfile.specs.Machine.{read_from, take_line, with_line}
-use Rattle.lq_sqlfile.specs.Pairs.{attributes, new_pair, pair, value}
+use Rattle.lq_sqlfile.specs.Lines.{behind_this, check, conditions, header, heading, marked, part_of, attributes, new_pair, pair, value}
+use Rattle.lq_sqlfile.specs.File.{read_from, take_line, with_line}
 use Rattle.lq_sqlfile.specs.Words.{after, attribute_words, directive_of, is_word}
-use Rattle.lq_sqltree.specs.Examples.{SqlTreeExamples, checked, checked_tree, whole_body, whole_tree}
-use Rattle.lq_sqltree.specs.SqlTree.{change_set, elsewhere, heading as keys_of_heading, here, item, sql_tree, tree_of}
+use Rattle.lq_sqltree.specs.SqlTree.{SqlTreeExamples, checked, checked_tree, whole_body, whole_tree, change_set, elsewhere, heading as keys_of_heading, here, item, sql_tree, tree_of}
 
 abbrev are_ascii : List ℕ → Bool
 are_ascii [] = true

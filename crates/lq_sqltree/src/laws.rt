@@ -1,4 +1,4 @@
-ghost use Rattle.lq_sqltree.specs.Examples.{SqlTreeExamples};
+ghost use Rattle.lq_sqltree.specs.SqlTree.{SqlTreeExamples};
 ghost use Rattle.lq_sqltree.specs.Laws.{FilesAreTrees, HeadersAreMissed, LinesAreWrong};
 
 /// What the tree of a file is, by lq_sqlfile's definition of a file: the tree of the one file that

@@ -1,6 +1,6 @@
 ghost use Rattle.std.specs.Prelude.{◌≡◌, ◌⊎◌, Err, IfOk, map};
 ghost use Rattle.std.specs.Str.Lines.{lines};
-ghost use Rattle.lq_sqlfile.specs.Machine.{file_of};
+ghost use Rattle.lq_sqlfile.specs.File.{file_of};
 ghost use Rattle.lq_sqlfile.specs.declared.fault.SqlFault.TheVariants as sql;
 ghost use Rattle.lq_sqltree.specs.SqlTree.{item, sql_tree, tree_of};
 ghost use Rattle.lq_sqltree.specs.declared.fault.SqlTreeFault.TheVariants.{OutOfMemory};

@@ -9,19 +9,16 @@ use Rattle.lq_base.specs.declared.name.Name.{Name}
 use Rattle.lq_model.proofs.Absent.{any-flat_map}
 use Rattle.lq_model.proofs.Lists.{and_no_right, any-append, any-map, any_less, or_false, or_left, or_right, same_name, true_false}
 use Rattle.lq_model.proofs.PublicNames.{none_placed}
-use Rattle.lq_model.specs.Catalogue.{Catalogue, Table, View}
-use Rattle.lq_model.specs.NameSpaces.{is_taken, names_inside, object_names, shared_names}
-use Rattle.lq_model.specs.Names.{is_in}
-use Rattle.lq_model.specs.Needs.{targets_table}
-use Rattle.lq_model.specs.Reserved.{is_tracking}
-use Rattle.lq_model.specs.TableNames.{foreign_names, inner_names}
+use Rattle.lq_model.specs.Catalogue.{Catalogue, Table, View, is_in, foreign_names, inner_names}
+use Rattle.lq_model.specs.NameSpaces.{is_taken, names_inside, object_names, shared_names, is_tracking}
+use Rattle.lq_model.specs.Tables.{targets_table}
 use Rattle.lq_model.specs.declared.constraint.ForeignKey.{ForeignKey}
 use Rattle.lq_track.specs.Lock.{lock_key_name, lock_table}
 use Rattle.lq_track.specs.Log.{log_table}
-use Rattle.lq_turns.specs.Held.{own_names}
+use Rattle.lq_turns.specs.Schedule.{own_names}
 use Rattle.lq_beside.specs.Beside.{is_tracker, targets_tracker}
 use Rattle.lq_beside.proofs.Words.{free_name}
-use Rattle.lq_store.specs.Apart.{names_tracking, names_within, takes_key}
+use Rattle.lq_store.specs.Journal.{names_tracking, names_within, takes_key}
 
 -- a name that passes a test is none that fails it
 unlike : (p : Name → Bool) (n m : Name) → p n ≡ true → p m ≡ false → is_named n m ≡ false

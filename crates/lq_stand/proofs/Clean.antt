@@ -14,13 +14,13 @@ use Rattle.lq_model.proofs.Lists.{all-append, and_left, and_right, and_true, any
 use Rattle.lq_model.proofs.Maps.{any_none-remove_entry, at_lookup, some_same, sorted_entries}
 use Rattle.lq_model.proofs.Shaped.{IsShaped, shape_of, sound_of}
 use Rattle.lq_model.specs.Catalogue.{Catalogue, Table, View, table_of, without_table}
-use Rattle.lq_model.specs.Needs.{is_viewed}
-use Rattle.lq_model.specs.ResultTests.{has_orphan, is_full}
+use Rattle.lq_model.specs.Tables.{is_viewed}
+use Rattle.lq_model.specs.Plan.{has_orphan, is_full}
 use Rattle.lq_model.specs.Sound.{IsSound}
 use Rattle.lq_track.specs.Database.{Database, IsDatabase, database_of, has_twin_rows, in_run_order, lock_from, lock_of, rows_from, rows_of, users_of}
 use Rattle.lq_track.specs.Lock.{lock_table}
 use Rattle.lq_track.specs.Log.{log_table}
-use Rattle.lq_turns.specs.Held.{StandsFor}
+use Rattle.lq_turns.specs.Schedule.{StandsFor}
 use Rattle.lq_beside.specs.Beside.{IsBeside, is_harmless, is_tracker, is_users, targets_tracker, users}
 use Rattle.lq_beside.proofs.Parts.{any_only}
 use Rattle.lq_beside.proofs.RunOrder.{as_many, placed_all}
@@ -28,9 +28,9 @@ use Rattle.lq_beside.proofs.Stands.{both_there, lock_there_harmless, log_harmles
 use Rattle.lq_beside.proofs.TablesRead.{map_some, not_is}
 use Rattle.lq_beside.proofs.TakesNone.{lock_tracker, log_tracker}
 use Rattle.lq_beside.proofs.Tests.{any_aimed, harmless_foreign, loose_same, no_orphan, none_in, not_users, null_same, orphan_same, overfull_same, twins_same}
-use Rattle.lq_store.specs.Apart.{is_apart, names_tracking, takes_key}
+use Rattle.lq_store.specs.Journal.{is_apart, names_tracking, takes_key}
 use Rattle.lq_entries.specs.Load.{is_clean_database}
-use Rattle.lq_stand.specs.Clean.{CleanStands}
+use Rattle.lq_stand.specs.Stays.{CleanStands}
 use Rattle.lq_stand.proofs.Apart.{names_free, none_aimed, untargeted, unviewed}
 
 -- what holds of rows holds of them in run order

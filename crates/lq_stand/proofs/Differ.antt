@@ -15,8 +15,7 @@ use Rattle.lq_model.specs.Catalogue.{Catalogue}
 use Rattle.lq_track.specs.Database.{has_twin_rows, same_identity}
 use Rattle.lq_track.specs.Log.{identity_of}
 use Rattle.lq_turns.proofs.RowsFound.{same_is}
-use Rattle.lq_turns.specs.Contents.{Contents}
-use Rattle.lq_turns.specs.Deed.{filled, has_place, is_of, others, renewed, rows_after, tagged, theirs, without_sum}
+use Rattle.lq_turns.specs.Deed.{Contents, filled, has_place, is_of, others, renewed, rows_after, tagged, theirs, without_sum}
 use Rattle.lq_turns.specs.Set.{has_row}
 use Rattle.lq_turns.specs.Settle.{greatest}
 use Rattle.lq_turns.specs.Turn.{Course, Ending, Finished, Stuck, Through, contents_in, course, ending, is_marked, kept, refused, row_ending}

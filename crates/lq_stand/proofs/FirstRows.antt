@@ -14,11 +14,9 @@ use Rattle.lq_base.specs.declared.tracking.Exec.{Exec}
 use Rattle.lq_base.specs.declared.tracking.Exec.TheVariants as exec
 use Rattle.lq_base.specs.declared.tracking.Tracked.{Tracked}
 use Rattle.lq_model.proofs.Lists.{all-append, and_left, and_right, and_true, true_false}
-use Rattle.lq_model.specs.Catalogue.{Catalogue}
-use Rattle.lq_model.specs.Commits.{commits_itself}
-use Rattle.lq_model.specs.Names.{is_empty}
+use Rattle.lq_model.specs.Catalogue.{Catalogue, is_empty}
+use Rattle.lq_model.specs.Step.{commits_itself, step}
 use Rattle.lq_model.specs.Sound.{IsSound}
-use Rattle.lq_model.specs.Step.{step}
 use Rattle.lq_model.specs.declared.caller.By.TheVariants.{User}
 use Rattle.lq_model.specs.declared.statement.Statement.{Statement}
 use Rattle.lq_track.specs.Database.{Database}
@@ -27,14 +25,11 @@ use Rattle.lq_turns.proofs.FirstRuns.{no_row}
 use Rattle.lq_turns.proofs.Made.{At}
 use Rattle.lq_turns.proofs.TurnLeft.{turn_taken, twice}
 use Rattle.lq_turns.proofs.Updates.{opened, settled_is, sound_by, taken_by}
-use Rattle.lq_turns.specs.Contents.{Contents, contents_of, with_contents}
-use Rattle.lq_turns.specs.Deed.{contents_after, done, has_place, if_accepted, is_of, lock_after, locked_after}
-use Rattle.lq_turns.specs.Effects.{undoing}
+use Rattle.lq_turns.specs.Deed.{Contents, contents_of, with_contents, contents_after, done, has_place, if_accepted, is_of, lock_after, locked_after}
+use Rattle.lq_turns.specs.Set.{undoing, IsKept, Meaning, Set, has_row, row_at}
 use Rattle.lq_turns.specs.Laws.{AreRead}
-use Rattle.lq_turns.specs.Rollback.{calls_if_finished, is_mark_ran, rollback_of, set_of, turns_made, undo_by, undo_turn, undo_turns}
-use Rattle.lq_turns.specs.Script.{calls_of_turn, calls_unless, clearing, closing, has_work, last_row, opening, rows_to_sync, set_calls, sets_calls, sync_of, tag_of, turn_by, with_lock}
+use Rattle.lq_turns.specs.Script.{calls_if_finished, is_mark_ran, rollback_of, set_of, turns_made, undo_by, undo_turn, undo_turns, calls_of_turn, calls_unless, clearing, closing, has_work, last_row, opening, rows_to_sync, set_calls, sets_calls, sync_of, tag_of, turn_by, with_lock}
 use Rattle.lq_turns.specs.Session.{Session, all_called, all_executed, before, called, closed, executed, executed_as, is_own, session_on, settled_if}
-use Rattle.lq_turns.specs.Set.{IsKept, Meaning, Set, has_row, row_at}
 use Rattle.lq_turns.specs.Settle.{choice, choice_of, exec_of, fill_turn, greatest, is_halt, is_to_fill, mark_turn, own_choice, reacted, record_in, row_for, run_turn, runs_again, settle, tested, what, what_by}
 use Rattle.lq_turns.specs.Turn.{Ending, Finished, Refused, apart, contents_in, ending, is_marked, made, made_on, mark, row_calls, statement_calls, turn_calls, unmark, within}
 use Rattle.lq_turns.specs.declared.call.Call.{Call}
@@ -52,9 +47,8 @@ use Rattle.lq_turns.specs.declared.deed.OnRows.TheVariants.{Cleared, Deleted, Fi
 use Rattle.lq_turns.specs.declared.stamp.Stamp.{Stamp}
 use Rattle.lq_turns.specs.declared.stop.Stop.{Stop}
 use Rattle.lq_turns.specs.declared.turn.Turn.{Turn}
-use Rattle.lq_beside.specs.Fitting.{is_deleted}
-use Rattle.lq_stand.specs.First.{call_is_first, calls_are_first, deed_is_first, deeds_are_first, is_first}
-use Rattle.lq_stand.specs.Stays.{ClearIsFirst, ReleaseIsFirst, RollbackIsFirst, SyncIsFirst, TagIsFirst, UpdateIsFirst}
+use Rattle.lq_beside.specs.Replays.{is_deleted}
+use Rattle.lq_stand.specs.Stays.{call_is_first, calls_are_first, deed_is_first, deeds_are_first, is_first, ClearIsFirst, ReleaseIsFirst, RollbackIsFirst, SyncIsFirst, TagIsFirst, UpdateIsFirst}
 
 ok_same : {A : Type 0} {x y : A} → (let r : Result A Reason = Ok x in r) ≡ Ok y → x ≡ y
 ok_same e = Prim.cc

@@ -2,20 +2,19 @@
 use Rattle.std.proofs.Common.{arith, rules, subst, tests}
 use Rattle.std.specs.List.{list_all}
 use Rattle.std.specs.Prelude.{List, None, Option, Some, [], max, nat_le, pos, refl, true, ℕ, ◌∷◌, ◌≡◌, ◌≤◌}
-use Rattle.lq_base.specs.Character.{char_count}
+use Rattle.lq_base.specs.Number.{char_count}
 use Rattle.lq_base.specs.Moment.{is_moment}
 use Rattle.lq_base.specs.Value.{is_int32, is_value_of}
 use Rattle.lq_base.specs.declared.tracking.Tracked.{Tracked}
 use Rattle.lq_model.proofs.Lists.{and_left, and_right, and_true}
 use Rattle.lq_model.proofs.Maps.{some_same}
-use Rattle.lq_model.specs.Catalogue.{Table, table_of}
-use Rattle.lq_model.specs.Row.{row_fits}
+use Rattle.lq_model.specs.Catalogue.{Table, table_of, row_fits}
 use Rattle.lq_track.specs.Database.{rows_from}
 use Rattle.lq_track.specs.Log.{log_column, log_order, log_table}
 use Rattle.lq_turns.specs.Settle.{greatest}
 use Rattle.lq_beside.proofs.AsMade.{log_columns, log_row, log_rows}
 use Rattle.lq_beside.proofs.Stands.{log_made_so, rows_read}
-use Rattle.lq_stand.specs.Places.{PlacesAreSmall}
+use Rattle.lq_stand.specs.Stays.{PlacesAreSmall}
 use Rattle.lq_stand.proofs.Clean.{all_placed}
 
 -- the fifth column's value

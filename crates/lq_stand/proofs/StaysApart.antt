@@ -9,16 +9,15 @@ use Rattle.lq_model.proofs.Lists.{and_left, and_right, and_true, or_left, or_rig
 use Rattle.lq_model.specs.Catalogue.{Catalogue}
 use Rattle.lq_model.specs.NameSpaces.{is_taken}
 use Rattle.lq_model.specs.Sound.{IsSound}
-use Rattle.lq_model.specs.Statement.{is_statement}
-use Rattle.lq_model.specs.Step.{plan, step}
+use Rattle.lq_model.specs.Step.{is_statement, plan, step}
 use Rattle.lq_model.specs.declared.caller.By.TheVariants.{User}
 use Rattle.lq_model.specs.declared.statement.Statement.{Statement}
 use Rattle.lq_track.specs.Lock.{lock_key_name, lock_table}
 use Rattle.lq_track.specs.Log.{log_table}
-use Rattle.lq_turns.specs.Held.{own_names}
+use Rattle.lq_turns.specs.Schedule.{own_names}
 use Rattle.lq_beside.proofs.TablesRead.{not_is}
 use Rattle.lq_beside.proofs.TakesNone.{takes_none}
-use Rattle.lq_store.specs.Apart.{names_tracking, takes_key}
+use Rattle.lq_store.specs.Journal.{names_tracking, takes_key}
 use Rattle.lq_stand.specs.Stays.{StatementsStayApart}
 use Rattle.lq_stand.proofs.Apart.{names_free}
 use Rattle.lq_stand.proofs.Unnamed.{IsUnnamed, named_none, result_unnamed, unnamed_of}

@@ -15,9 +15,8 @@ use Rattle.lq_track.specs.Database.{Database, has_twin_rows}
 use Rattle.lq_track.specs.Log.{identity_of}
 use Rattle.lq_turns.proofs.Journal.{joined_any, joined_both, next}
 use Rattle.lq_turns.proofs.Locked.{led_both}
-use Rattle.lq_turns.specs.Contents.{contents_of, with_contents}
-use Rattle.lq_turns.specs.Deed.{all_done, done, if_accepted, lock_after, rows_after}
-use Rattle.lq_turns.specs.Held.{StandsFor}
+use Rattle.lq_turns.specs.Deed.{contents_of, with_contents, all_done, done, if_accepted, lock_after, rows_after}
+use Rattle.lq_turns.specs.Schedule.{StandsFor}
 use Rattle.lq_turns.specs.Session.{Session, aborted, accepted, all_called, all_executed, all_executed_as, before, closed, executed, executed_as, is_own, left_by, session_on, settled_if, settled_up}
 use Rattle.lq_turns.specs.Set.{has_row}
 use Rattle.lq_turns.specs.Settle.{greatest}
@@ -30,10 +29,9 @@ use Rattle.lq_turns.specs.declared.deed.OnLock.TheVariants.{Freed}
 use Rattle.lq_turns.specs.declared.deed.OnRows.{OnRows}
 use Rattle.lq_turns.specs.declared.deed.OnRows.TheVariants.{Cleared, Deleted, Filled, Inserted, Renewed, Tagged}
 use Rattle.lq_beside.proofs.TablesRead.{not_is}
-use Rattle.lq_store.specs.Apart.{names_tracking}
+use Rattle.lq_store.specs.Journal.{names_tracking}
 use Rattle.lq_entries.specs.Load.{is_clean_database}
-use Rattle.lq_stand.specs.First.{calls_are_first, deed_is_first, deeds_are_first, is_first}
-use Rattle.lq_stand.specs.Stays.{CallsStayClean, CleanIsFound, IsClean, StopsStayClean}
+use Rattle.lq_stand.specs.Stays.{calls_are_first, deed_is_first, deeds_are_first, is_first, CallsStayClean, CleanIsFound, IsClean, StopsStayClean}
 use Rattle.lq_stand.proofs.Differ.{Adds, differ_after}
 use Rattle.lq_stand.proofs.StaysApart.{key_free, names_stay}
 

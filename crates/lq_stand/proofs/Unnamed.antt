@@ -14,26 +14,14 @@ use Rattle.lq_base.specs.declared.name.Name.{Name}
 use Rattle.lq_model.proofs.DropKeeps.{any_filtered}
 use Rattle.lq_model.proofs.Lists.{any-append, any-map, any_less, or_false, or_left, or_right, same_name}
 use Rattle.lq_model.proofs.Maps.{any_none-remove_entry, any_none-set_value, at_lookup}
-use Rattle.lq_model.specs.AddConstraint.{with_foreign, with_index, with_key, with_unique}
-use Rattle.lq_model.specs.Catalogue.{Catalogue, Sequence, Table, View, no_table, sequence_of, table_of, the_table, view_of, with_new, with_sequence, with_table, with_view, without_sequence, without_table, without_view}
-use Rattle.lq_model.specs.ChangeColumn.{made_nullable, modified, with_changed, with_default}
-use Rattle.lq_model.specs.Columns.{with_column, without_column}
-use Rattle.lq_model.specs.CreateTable.{new_table}
-use Rattle.lq_model.specs.Delete.{cascaded, row_count, without_lost, without_lost_in, without_taken}
-use Rattle.lq_model.specs.DropConstraint.{without_constraint, without_foreign, without_index, without_index_in, without_its_key, without_key, without_unique}
-use Rattle.lq_model.specs.Insert.{stated, with_row}
-use Rattle.lq_model.specs.Kinds.{kind_in}
-use Rattle.lq_model.specs.Literals.{column_of, value_in}
-use Rattle.lq_model.specs.NameSpaces.{object_names}
-use Rattle.lq_model.specs.Names.{renamed}
-use Rattle.lq_model.specs.Rename.{retarget, retargeted, table_renamed, view_renamed}
-use Rattle.lq_model.specs.RenameColumn.{with_column_renamed}
-use Rattle.lq_model.specs.Reserved.{is_reserved, is_tracking}
-use Rattle.lq_model.specs.Sequences.{sequence_renamed}
+use Rattle.lq_model.specs.Constraints.{with_foreign, with_index, with_key, with_unique, without_constraint, without_foreign, without_index, without_index_in, without_its_key, without_key, without_unique}
+use Rattle.lq_model.specs.Catalogue.{Catalogue, Sequence, Table, View, no_table, sequence_of, table_of, the_table, view_of, with_new, with_sequence, with_table, with_view, without_sequence, without_table, without_view, renamed, constraint_names, foreign_names, inner_names, key_list}
+use Rattle.lq_model.specs.Tables.{made_nullable, modified, with_changed, with_default, with_column, without_column, new_table, retarget, retargeted, table_renamed, view_renamed, with_column_renamed}
+use Rattle.lq_model.specs.Rows.{cascaded, row_count, without_lost, without_lost_in, without_taken, stated, with_row, edited}
+use Rattle.lq_model.specs.Kinds.{kind_in, column_of, value_in}
+use Rattle.lq_model.specs.NameSpaces.{object_names, is_reserved, is_tracking}
+use Rattle.lq_model.specs.Views.{sequence_renamed, new_view}
 use Rattle.lq_model.specs.Step.{plan}
-use Rattle.lq_model.specs.Update.{edited}
-use Rattle.lq_model.specs.Views.{new_view}
-use Rattle.lq_model.specs.TableNames.{constraint_names, foreign_names, inner_names, key_list}
 use Rattle.lq_model.specs.declared.caller.By.TheVariants.{User}
 use Rattle.lq_model.specs.declared.column.ColumnDef.{ColumnDef}
 use Rattle.lq_model.specs.declared.constraint.ForeignKey.{ForeignKey}
@@ -42,7 +30,7 @@ use Rattle.lq_model.specs.declared.constraint.Unique.{Unique}
 use Rattle.lq_model.specs.declared.index.Index.{Index}
 use Rattle.lq_model.specs.declared.statement.Statement.{Statement}
 use Rattle.lq_model.specs.declared.statement.Statement.TheVariants.{AddColumn, AddForeignKey, AddPrimaryKey, AddUnique, CreateIndex, CreateSequence, CreateTable, CreateView, Delete, DropColumn, DropConstraint, DropDefault, DropForeignKey, DropIndex, DropNotNull, DropPrimaryKey, DropSequence, DropTable, DropUnique, DropView, Insert, Modify, RenameColumn, RenameSequence, RenameTable, RenameView, SetDefault, SetNotNull, Update}
-use Rattle.lq_store.specs.Apart.{names_tracking, names_within}
+use Rattle.lq_store.specs.Journal.{names_tracking, names_within}
 
 -- lists and maps
 

@@ -1,4 +1,1 @@
-pub mod Clean
-pub mod First
-pub mod Places
 pub mod Stays

@@ -1,7 +1,5 @@
-ghost use Rattle.lq_stand.specs.Clean.{CleanStands};
-ghost use Rattle.lq_stand.specs.Places.{PlacesAreSmall};
-ghost use Rattle.lq_stand.specs.Stays.{CallsStayClean, CleanIsFound, ClearIsFirst, ReleaseIsFirst, RollbackIsFirst, StatementsStayApart, StopsStayClean, SyncIsFirst, TagIsFirst, UpdateIsFirst};
-ghost use Rattle.lq_turns.specs.Promised.{meaning};
+ghost use Rattle.lq_stand.specs.Stays.{CleanStands, PlacesAreSmall, CallsStayClean, CleanIsFound, ClearIsFirst, ReleaseIsFirst, RollbackIsFirst, StatementsStayApart, StopsStayClean, SyncIsFirst, TagIsFirst, UpdateIsFirst};
+ghost use Rattle.lq_turns.specs.Set.{meaning};
 
 use lq_model::Change;
 

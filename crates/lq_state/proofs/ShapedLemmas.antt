@@ -7,13 +7,12 @@ use Rattle.lq_base.specs.declared.value.Value.{Value}
 use Rattle.lq_model.specs.Catalogue.{Catalogue, Table}
 use Rattle.lq_model.specs.declared.column.Column.{Column}
 use Rattle.lq_codec.specs.Codec.{both, counted, optional}
-use Rattle.lq_codec.specs.Database.{catalogue_codec, sequence_codec, view_codec}
-use Rattle.lq_codec.specs.Limits.{OnTrue, free, if_both}
+use Rattle.lq_codec.specs.Tables.{catalogue_codec, sequence_codec, view_codec, Head, column_codec, foreign_codec, has_some, head_codec, index_codec, key_codec, row_codec, table_codec, unique_codec}
+use Rattle.lq_codec.specs.State.{OnTrue, free, if_both}
 use Rattle.lq_model.specs.declared.constraint.ForeignKey.{ForeignKey}
 use Rattle.lq_model.specs.declared.constraint.Key.{Key}
 use Rattle.lq_model.specs.declared.constraint.Unique.{Unique}
 use Rattle.lq_model.specs.declared.index.Index.{Index}
-use Rattle.lq_codec.specs.Tables.{Head, column_codec, foreign_codec, has_some, head_codec, index_codec, key_codec, row_codec, table_codec, unique_codec}
 use Rattle.lq_codec.specs.Values.{value_codec}
 use Rattle.lq_codec.specs.Words.{count, is_from_zero, name, number}
 use Rattle.lq_codec.proofs.Laws.{both_true}

@@ -2,10 +2,10 @@
 use Rattle.std.specs.List.{list_all}
 use Rattle.std.specs.Prelude.{Bool, List, length, nat_lt, ◌&&◌, ◌==◌}
 use Rattle.lq_base.specs.declared.value.Value.{Value}
+use Rattle.lq_codec.specs.State.{free, has_levels, if_both}
+use Rattle.lq_codec.specs.Tables.{has_some}
 use Rattle.lq_model.specs.Catalogue.{Catalogue, Table, View}
 use Rattle.lq_model.specs.declared.column.Column.{Column}
-use Rattle.lq_codec.specs.Limits.{free, has_levels, if_both}
-use Rattle.lq_codec.specs.Tables.{has_some}
 
 -- as many values as columns
 abbrev pub has_width : List Column → List Value → Bool

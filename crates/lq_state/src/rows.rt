@@ -1,7 +1,7 @@
 ghost use Rattle.std.specs.List.{list_all};
 ghost use Rattle.std.specs.Prelude.{◌≡◌, ◌++◌, Some, None, MatchOption, IfOk, OnOk, true};
 ghost use Rattle.lq_codec.specs.Codec.{each, write_each};
-ghost use Rattle.lq_codec.specs.Limits.{OnTrue};
+ghost use Rattle.lq_codec.specs.State.{OnTrue};
 ghost use Rattle.lq_codec.specs.Tables.{row_codec};
 ghost use Rattle.lq_codec.specs.Values.{value_codec};
 ghost use Rattle.lq_state.specs.Shaped.{has_width};

@@ -20,8 +20,8 @@ impl Model for Sequence {
 
 #[tactic(auto, unfolding(lq_codec::specs::Database::sequence_codec))]
 impl Coded for Sequence {
-    ghost use Rattle.lq_codec.specs.Database.{sequence_codec};
-    ghost use Rattle.lq_codec.specs.Limits.{free};
+    ghost use Rattle.lq_codec.specs.Tables.{sequence_codec};
+    ghost use Rattle.lq_codec.specs.State.{free};
 
     ghost codec = { sequence_codec };
 

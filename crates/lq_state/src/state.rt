@@ -1,6 +1,6 @@
 ghost use Rattle.std.specs.Prelude.{◌≡◌, ◌++◌, Some, None, MatchOption, IfOk, OnOk, true};
-ghost use Rattle.lq_codec.specs.Database.{bytes_of, can_be_written, catalogue_of};
-ghost use Rattle.lq_codec.specs.Limits.{OnTrue};
+ghost use Rattle.lq_codec.specs.Tables.{bytes_of, can_be_written, catalogue_of};
+ghost use Rattle.lq_codec.specs.State.{OnTrue};
 ghost use Rattle.lq_state.specs.Shaped.{is_shaped_whole};
 
 use crate::sequence::Sequence;
@@ -36,7 +36,7 @@ impl Model for State {
 }
 
 impl Coded for State {
-    ghost use Rattle.lq_codec.specs.Database.{catalogue_codec};
+    ghost use Rattle.lq_codec.specs.Tables.{catalogue_codec};
     ghost use Rattle.lq_state.specs.Shaped.{is_shaped_whole};
 
     ghost codec = { catalogue_codec };

@@ -1,5 +1,5 @@
 ghost use Rattle.std.specs.Prelude.{◌≡◌, ◌++◌, Some, None, MatchOption, IfOk, OnOk, true};
-ghost use Rattle.lq_codec.specs.Limits.{OnTrue};
+ghost use Rattle.lq_codec.specs.State.{OnTrue};
 ghost use Rattle.lq_codec.specs.Tables.{as_table, columns_codec, has_some, head_codec, rows_of_width};
 
 use crate::rows::{append_rows, rows_in};

@@ -25,7 +25,7 @@ impl Model for View {
 
 #[tactic(auto, unfolding(lq_codec::specs::Database::view_codec))]
 impl Coded for View {
-    ghost use Rattle.lq_codec.specs.Database.{view_codec};
+    ghost use Rattle.lq_codec.specs.Tables.{view_codec};
     ghost use Rattle.lq_state.specs.Shaped.{is_shaped_view};
 
     ghost codec = { view_codec };

@@ -6,10 +6,9 @@ use Rattle.lq_base.proofs.NameLemmas.{beside_named, is_name_key_name, parts_of_n
 use Rattle.lq_base.specs.Name.{beside, is_beside, is_name, is_object, text_of}
 use Rattle.lq_base.specs.declared.dialect.Dialect.{Dialect}
 use Rattle.lq_base.specs.declared.dialect.Dialect.TheVariants.{Postgresql, Mysql}
-use Rattle.lq_model.specs.SqlAlter.{add, add_column, add_constraint, alter, alter_by, alter_column, alter_column_by, alter_sequence, alter_table, alter_table_by, alter_view, constraint_added, drop_part, drop_part_by, modify, new_name, rename_column, rename_part, rename_table_to, set_by, set_part, unset_by, unset_part}
-use Rattle.lq_model.specs.SqlColumn.{added_column}
+use Rattle.lq_model.specs.SqlAlter.{add, add_column, add_constraint, alter, alter_by, alter_column, alter_column_by, alter_sequence, alter_table, alter_table_by, alter_view, constraint_added, drop_part, drop_part_by, modify, new_name, rename_column, rename_part, rename_table_to, set_by, set_part, unset_by, unset_part, rename_table}
+use Rattle.lq_model.specs.SqlTable.{added_column}
 use Rattle.lq_model.specs.SqlConstraint.{begins_constraint, table_constraint}
-use Rattle.lq_model.specs.SqlDrop.{rename_table}
 use Rattle.lq_model.specs.SqlParser.{eat, expect, peek, skip}
 use Rattle.lq_model.specs.SqlPart.{column_kind, literal, name, object}
 use Rattle.lq_model.specs.declared.statement.Statement.TheVariants.{AddColumn, DropColumn, DropConstraint, DropDefault, DropForeignKey, DropNotNull, DropPrimaryKey, DropUnique, Modify, RenameColumn, RenameSequence, RenameTable, RenameView, SetDefault, SetNotNull}

@@ -2,7 +2,7 @@
 use Rattle.std.proofs.Common.{◌≡◌, List, [], ◌∷◌, ◌++◌, ap, refl}
 use Rattle.lq_base.specs.declared.kind.Kind.{Kind}
 use Rattle.lq_base.specs.declared.name.Name.{Name}
-use Rattle.lq_model.specs.SqlColumn.{column_with}
+use Rattle.lq_model.specs.SqlTable.{column_with}
 use Rattle.lq_model.specs.declared.table_item.ColumnClause.{ColumnClause}
 use Rattle.lq_model.specs.declared.table_item.StatedColumn.{StatedColumn}
 use Rattle.lq_statement.specs.Clauses.{with_clause}

@@ -7,9 +7,9 @@ use Rattle.lq_base.specs.declared.dialect.Dialect.{Dialect}
 use Rattle.lq_base.specs.declared.dialect.Dialect.TheVariants.{Postgresql, Mysql}
 use Rattle.lq_base.specs.declared.kind.Kind.{Kind}
 use Rattle.lq_base.specs.declared.literal.Literal.{Literal}
-use Rattle.lq_model.specs.Phrase as text
-use Rattle.lq_model.specs.Spelled.{is_literal}
-use Rattle.lq_model.specs.SqlColumn.{added_column, column_clause, column_of, column_with, differ, identity, stated_column}
+use Rattle.lq_model.specs.TestText as text
+use Rattle.lq_model.specs.Comparison.{is_literal}
+use Rattle.lq_model.specs.SqlTable.{added_column, column_clause, column_of, column_with, differ, identity, stated_column}
 use Rattle.lq_model.specs.SqlParser.{expect, kind, many, many_of, pure, refuse, same_kind, sees}
 use Rattle.lq_model.specs.SqlPart.{name}
 use Rattle.lq_model.specs.SqlWord.{bare, folded, kind_of_word, with_text, words}

@@ -7,11 +7,11 @@ use Rattle.lq_base.specs.Laws.{NumberOfSpells}
 use Rattle.lq_base.specs.declared.dialect.Dialect.{Dialect}
 use Rattle.lq_base.specs.declared.dialect.Dialect.TheVariants.{Postgresql, Mysql}
 use Rattle.lq_base.specs.declared.literal.Literal.{Literal}
-use Rattle.lq_model.specs.DefaultName.{foreign_name, key_name, unique_name}
-use Rattle.lq_model.specs.SqlColumn.{added_column, clause_by, column_clause, column_foreign, column_key, column_of, column_unique, column_with, default_by, differ, first_said, foreign_to, has_constraint, identity, stated_column, target, target_by}
+use Rattle.lq_model.specs.Sound.{foreign_name, key_name, unique_name}
+use Rattle.lq_model.specs.SqlTable.{added_column, clause_by, column_clause, column_foreign, column_key, column_of, column_unique, column_with, default_by, differ, first_said, foreign_to, has_constraint, identity, stated_column, target, target_by}
 use Rattle.lq_model.specs.SqlParser.{expect, given, many, peek, skip}
 use Rattle.lq_model.specs.SqlPart.{column_kind, literal, name, name_of, object}
-use Rattle.lq_model.specs.Statement.{is_column_def}
+use Rattle.lq_model.specs.Step.{is_column_def}
 use Rattle.lq_model.specs.declared.column.ColumnDef.{ColumnDef}
 use Rattle.lq_model.specs.declared.constraint.ForeignKey.{ForeignKey}
 use Rattle.lq_model.specs.declared.constraint.Key.{Key}

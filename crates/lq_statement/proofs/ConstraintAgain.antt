@@ -3,9 +3,8 @@ use Rattle.std.proofs.Common.{◌≡◌, ℕ, Bool, true, false, List, [], ◌�
 use Rattle.std.specs.Prelude.{codes}
 use Rattle.lq_base.specs.declared.dialect.Dialect.{Dialect}
 use Rattle.lq_base.specs.declared.dialect.Dialect.TheVariants.{Postgresql, Mysql}
-use Rattle.lq_model.specs.DefaultName.{key_name}
-use Rattle.lq_model.specs.Phrase as text
-use Rattle.lq_model.specs.Sound.{primary}
+use Rattle.lq_model.specs.Sound.{key_name, primary}
+use Rattle.lq_model.specs.TestText as text
 use Rattle.lq_model.specs.SqlConstraint.{foreign, key, on_delete, stated_name, table_constraint, unique}
 use Rattle.lq_model.specs.SqlParser.{after, enclosed, expect, same_kind, sees}
 use Rattle.lq_model.specs.SqlPart.{name, name_of}

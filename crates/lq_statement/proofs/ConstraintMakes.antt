@@ -4,12 +4,11 @@ use Rattle.std.proofs.lemmas.Bool.{and_from}
 use Rattle.lq_base.specs.Name.{is_name, is_object}
 use Rattle.lq_base.specs.declared.dialect.Dialect.{Dialect}
 use Rattle.lq_base.specs.declared.dialect.Dialect.TheVariants.{Postgresql, Mysql}
-use Rattle.lq_model.specs.DefaultName.{foreign_name, key_name, unique_name}
-use Rattle.lq_model.specs.Sound.{is_key_name, primary}
+use Rattle.lq_model.specs.Sound.{foreign_name, key_name, unique_name, is_key_name, primary}
 use Rattle.lq_model.specs.SqlConstraint.{constraint_by, foreign, key, key_name_or, name_or, on_delete, stated_name, table_constraint, unique}
 use Rattle.lq_model.specs.SqlParser.{eat, enclosed, expect, peek}
 use Rattle.lq_model.specs.SqlPart.{name, name_of, object}
-use Rattle.lq_model.specs.Statement.{is_foreign, is_key, is_name_list, is_unique}
+use Rattle.lq_model.specs.Step.{is_foreign, is_key, is_name_list, is_unique}
 use Rattle.lq_model.specs.declared.constraint.ForeignKey.{ForeignKey}
 use Rattle.lq_model.specs.declared.constraint.Key.{Key}
 use Rattle.lq_model.specs.declared.constraint.Unique.{Unique}

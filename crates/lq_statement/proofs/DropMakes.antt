@@ -2,7 +2,7 @@
 use Rattle.std.proofs.Common.{Some, None, refl}
 use Rattle.lq_base.specs.declared.dialect.Dialect.{Dialect}
 use Rattle.lq_base.specs.declared.dialect.Dialect.TheVariants.{Postgresql, Mysql}
-use Rattle.lq_model.specs.SqlDrop.{drop_index, drop_object, drop_object_by}
+use Rattle.lq_model.specs.SqlAlter.{drop_index, drop_object, drop_object_by}
 use Rattle.lq_model.specs.SqlParser.{expect, peek, skip}
 use Rattle.lq_model.specs.SqlPart.{name, object}
 use Rattle.lq_model.specs.declared.statement.Statement.TheVariants.{DropIndex, DropSequence, DropTable, DropView}

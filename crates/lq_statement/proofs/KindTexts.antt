@@ -10,7 +10,7 @@ use Rattle.lq_base.specs.declared.dialect.Dialect.TheVariants.{Postgresql, Mysql
 use Rattle.lq_base.specs.declared.kind.Kind.{Kind}
 use Rattle.lq_base.specs.declared.kind.Kind.TheVariants as kind
 use Rattle.lq_base.proofs.SpacedLemmas.{plain_number-decimal}
-use Rattle.lq_model.specs.Phrase as text
+use Rattle.lq_model.specs.TestText as text
 use Rattle.lq_model.specs.SqlParser.{after, expect, same_kind, sees}
 use Rattle.lq_model.specs.SqlPart.{column_kind, decimal_with, kind_number, kind_with, sized_with}
 use Rattle.lq_model.specs.SqlWord.{bare, folded, kind_of_word, with_text}

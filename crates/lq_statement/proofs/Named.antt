@@ -4,10 +4,9 @@ use Rattle.std.specs.Prelude.{codes}
 use Rattle.lq_base.specs.Name.{beside, text_of}
 use Rattle.lq_base.specs.declared.dialect.Dialect.{Dialect}
 use Rattle.lq_base.specs.declared.dialect.Dialect.TheVariants.{Postgresql, Mysql}
-use Rattle.lq_model.specs.Phrase as text
-use Rattle.lq_model.specs.Quoting.{name_text}
-use Rattle.lq_model.specs.SqlAlter.{alter, alter_column, alter_sequence, alter_table, alter_view, drop_part, new_name, rename_column, rename_part, rename_table_to, set_part, unset_part}
-use Rattle.lq_model.specs.SqlDrop.{drop_index, drop_object, rename_table}
+use Rattle.lq_model.specs.TestText as text
+use Rattle.lq_model.specs.TestText.{name_text}
+use Rattle.lq_model.specs.SqlAlter.{alter, alter_column, alter_sequence, alter_table, alter_view, drop_part, new_name, rename_column, rename_part, rename_table_to, set_part, unset_part, drop_index, drop_object, rename_table}
 use Rattle.lq_model.specs.SqlParser.{after, ended, expect, same_kind, sees}
 use Rattle.lq_model.specs.SqlPart.{name}
 use Rattle.lq_model.specs.SqlStatement.{statement}

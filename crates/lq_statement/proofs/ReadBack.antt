@@ -14,14 +14,13 @@ use Rattle.lq_base.specs.declared.dialect.Dialect.TheVariants.{Postgresql, Mysql
 use Rattle.lq_base.specs.declared.literal.Literal.{Literal}
 use Rattle.lq_base.specs.declared.literal.Literal.TheVariants as constant
 use Rattle.lq_model.proofs.Lists.{same_name}
-use Rattle.lq_model.specs.Literals.{literal_of}
-use Rattle.lq_model.specs.Names.{is_empty}
+use Rattle.lq_model.specs.Kinds.{literal_of}
+use Rattle.lq_model.specs.Catalogue.{is_empty, key_list}
 use Rattle.lq_model.specs.Sound.{is_key_name, primary}
-use Rattle.lq_model.specs.Spelled.{is_literal}
-use Rattle.lq_model.specs.Statement.{is_column_def, is_foreign, is_index, is_key, is_name_list, is_query, is_unique, is_wanted, is_where}
+use Rattle.lq_model.specs.Comparison.{is_literal}
+use Rattle.lq_model.specs.Step.{is_column_def, is_foreign, is_index, is_key, is_name_list, is_query, is_unique, is_wanted, is_where}
 use Rattle.lq_model.specs.SqlText.{statement_in}
 use Rattle.lq_model.specs.StatementText.{text_of}
-use Rattle.lq_model.specs.TableNames.{key_list}
 use Rattle.lq_model.specs.declared.column.ColumnDef.{ColumnDef}
 use Rattle.lq_model.specs.declared.constraint.ForeignKey.{ForeignKey}
 use Rattle.lq_model.specs.declared.constraint.Key.{Key}

@@ -6,7 +6,7 @@ use Rattle.lq_base.specs.Laws.{NumberOfSpells}
 use Rattle.lq_base.specs.Name.{is_name, is_object}
 use Rattle.lq_base.specs.declared.dialect.Dialect.{Dialect}
 use Rattle.lq_base.specs.declared.literal.Literal.{Literal}
-use Rattle.lq_model.specs.Spelled.{is_literal}
+use Rattle.lq_model.specs.Comparison.{is_literal}
 use Rattle.lq_model.specs.SqlParser.{enclosed, expect, peek, same_kind, separated}
 use Rattle.lq_model.specs.SqlPart.{literal, name, object}
 use Rattle.lq_model.specs.SqlRows.{assignment, delete, insert, stated_columns, update}

@@ -5,14 +5,14 @@ use Rattle.std.proofs.lemmas.Bool.{and_parts}
 use Rattle.lq_base.specs.Name.{is_name}
 use Rattle.lq_base.specs.declared.dialect.Dialect.{Dialect}
 use Rattle.lq_base.specs.declared.literal.Literal.{Literal}
-use Rattle.lq_model.specs.Phrase as text
-use Rattle.lq_model.specs.Spelled.{is_literal}
+use Rattle.lq_model.specs.TestText as text
+use Rattle.lq_model.specs.Comparison.{is_literal}
 use Rattle.lq_model.specs.SqlParser.{after, ended, expect, same_kind, sees}
 use Rattle.lq_model.specs.SqlRows.{assignment, delete, insert, stated_columns, update}
 use Rattle.lq_model.specs.SqlStatement.{statement}
 use Rattle.lq_model.specs.SqlText.{statement_in}
 use Rattle.lq_model.specs.SqlWord.{bare, kind_of_word, words}
-use Rattle.lq_model.specs.Statement.{is_where}
+use Rattle.lq_model.specs.Step.{is_where}
 use Rattle.lq_model.specs.StatementText.{columns_text, set_text, text_of}
 use Rattle.lq_model.specs.TestText.{listed, where_text}
 use Rattle.lq_model.specs.declared.statement.Statement.TheVariants.{Delete, Insert, Update}

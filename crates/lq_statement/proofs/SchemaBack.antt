@@ -9,16 +9,15 @@ use Rattle.lq_base.specs.declared.kind.Kind.{Kind}
 use Rattle.lq_base.specs.declared.literal.Literal.{Literal}
 use Rattle.lq_base.specs.declared.literal.Literal.TheVariants as constant
 use Rattle.lq_base.specs.Kind.{is_kind}
-use Rattle.lq_model.specs.Phrase as text
-use Rattle.lq_model.specs.Spelled.{is_literal}
+use Rattle.lq_model.specs.TestText as text
+use Rattle.lq_model.specs.Comparison.{is_literal}
 use Rattle.lq_model.specs.SqlAlter.{alter, alter_column, alter_table, modify, set_part}
-use Rattle.lq_model.specs.SqlCreate.{create, create_index, create_sequence, create_view, step, whole}
+use Rattle.lq_model.specs.SqlStatement.{create, create_index, create_sequence, create_view, step, whole, statement}
 use Rattle.lq_model.specs.SqlParser.{after, ended, expect, same_kind, sees}
 use Rattle.lq_model.specs.SqlPart.{literal}
-use Rattle.lq_model.specs.SqlStatement.{statement}
 use Rattle.lq_model.specs.SqlText.{statement_in}
 use Rattle.lq_model.specs.SqlWord.{bare, folded, kind_of_word, with_text}
-use Rattle.lq_model.specs.Statement.{is_wanted, is_where}
+use Rattle.lq_model.specs.Step.{is_wanted, is_where}
 use Rattle.lq_model.specs.StatementText.{text_of}
 use Rattle.lq_model.specs.TestText.{query_text}
 use Rattle.lq_model.specs.declared.query.Query.{Query}

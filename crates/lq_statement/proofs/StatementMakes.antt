@@ -8,12 +8,11 @@ use Rattle.lq_base.specs.declared.dialect.Dialect.{Dialect}
 use Rattle.lq_base.specs.declared.dialect.Dialect.TheVariants.{Postgresql, Mysql}
 use Rattle.lq_base.specs.declared.literal.Literal.{Literal}
 use Rattle.lq_base.specs.declared.literal.Literal.TheVariants as constant
-use Rattle.lq_model.specs.Spelled.{is_literal}
-use Rattle.lq_model.specs.SqlCreate.{create, create_by, create_index, create_sequence, create_view, step, whole, whole_of}
+use Rattle.lq_model.specs.Comparison.{is_literal}
+use Rattle.lq_model.specs.SqlStatement.{create, create_by, create_index, create_sequence, create_view, step, whole, whole_of, statement, statement_by}
 use Rattle.lq_model.specs.SqlParser.{enclosed, expect, peek, skip}
 use Rattle.lq_model.specs.SqlPart.{literal, name, object}
 use Rattle.lq_model.specs.SqlQuery.{query}
-use Rattle.lq_model.specs.SqlStatement.{statement, statement_by}
 use Rattle.lq_model.specs.SqlText.{statement_in}
 use Rattle.lq_model.specs.declared.statement.Statement.TheVariants.{CreateIndex, CreateSequence, CreateView}
 use Rattle.lq_model.specs.declared.word.WordKind.{WordKind}

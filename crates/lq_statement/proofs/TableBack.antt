@@ -9,18 +9,16 @@ use Rattle.lq_base.specs.declared.dialect.Dialect.TheVariants.{Postgresql, Mysql
 use Rattle.lq_base.specs.declared.kind.Kind.{Kind}
 use Rattle.lq_base.specs.declared.kind.Kind.TheVariants as kinds
 use Rattle.lq_base.specs.declared.literal.Literal.{Literal}
-use Rattle.lq_model.specs.Phrase as text
+use Rattle.lq_model.specs.TestText as text
 use Rattle.lq_model.specs.SqlAlter.{add, add_column, add_constraint, alter, alter_table}
-use Rattle.lq_model.specs.SqlColumn.{column_foreign, column_key, column_unique}
+use Rattle.lq_model.specs.SqlTable.{column_foreign, column_key, column_unique, are_ordered, column_item, columns_in, create_table, foreign_in, keys_in, only, rank, table_item, table_of, uniques_in}
 use Rattle.lq_model.specs.SqlConstraint.{begins_constraint}
-use Rattle.lq_model.specs.SqlCreate.{create}
+use Rattle.lq_model.specs.SqlStatement.{create, statement}
 use Rattle.lq_model.specs.SqlParser.{after, enclosed, ended, expect, kind, same_kind, sees}
-use Rattle.lq_model.specs.SqlStatement.{statement}
-use Rattle.lq_model.specs.SqlTable.{are_ordered, column_item, columns_in, create_table, foreign_in, keys_in, only, rank, table_item, table_of, uniques_in}
 use Rattle.lq_model.specs.SqlText.{statement_in}
 use Rattle.lq_model.specs.SqlWord.{bare, kind_of_word, words}
 use Rattle.lq_model.specs.StatementText.{column_text, foreign_text, key_in_table, table_text, text_of, unique_text}
-use Rattle.lq_model.specs.TableNames.{key_list}
+use Rattle.lq_model.specs.Catalogue.{key_list}
 use Rattle.lq_model.specs.TestText.{after_commas, listed}
 use Rattle.lq_model.specs.declared.column.ColumnDef.{ColumnDef}
 use Rattle.lq_model.specs.declared.constraint.ForeignKey.{ForeignKey}

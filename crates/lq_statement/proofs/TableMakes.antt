@@ -6,14 +6,12 @@ use Rattle.std.proofs.lemmas.Bool.{and_from, and_parts}
 use Rattle.lq_base.specs.Laws.{NumberOfSpells}
 use Rattle.lq_base.specs.Name.{is_object}
 use Rattle.lq_base.specs.declared.dialect.Dialect.{Dialect}
-use Rattle.lq_model.specs.Names.{is_empty}
-use Rattle.lq_model.specs.SqlColumn.{column_foreign, column_key, column_of, column_unique, stated_column}
+use Rattle.lq_model.specs.Catalogue.{is_empty, key_list}
+use Rattle.lq_model.specs.SqlTable.{column_foreign, column_key, column_of, column_unique, stated_column, are_ordered, column_item, columns_in, create_table, foreign_in, keys_in, only, table_item, table_of, table_with, uniques_in}
 use Rattle.lq_model.specs.SqlConstraint.{begins_constraint, table_constraint}
 use Rattle.lq_model.specs.SqlParser.{enclosed, peek}
 use Rattle.lq_model.specs.SqlPart.{object}
-use Rattle.lq_model.specs.SqlTable.{are_ordered, column_item, columns_in, create_table, foreign_in, keys_in, only, table_item, table_of, table_with, uniques_in}
-use Rattle.lq_model.specs.Statement.{is_column_def, is_foreign, is_key, is_unique}
-use Rattle.lq_model.specs.TableNames.{key_list}
+use Rattle.lq_model.specs.Step.{is_column_def, is_foreign, is_key, is_unique}
 use Rattle.lq_model.specs.declared.constraint.Key.{Key}
 use Rattle.lq_model.specs.declared.table_item.TableConstraint.TheVariants as constraint
 use Rattle.lq_model.specs.declared.table_item.TableItem.{TableItem}

@@ -1,7 +1,7 @@
 -- A whole text is read as its words are.
 use Rattle.std.proofs.Common.{◌≡◌, ℕ, List, [], ◌∷◌, Some}
 use Rattle.lq_base.specs.declared.dialect.Dialect.{Dialect}
-use Rattle.lq_model.specs.Quoting.{name_text, quoted_text}
+use Rattle.lq_model.specs.TestText.{name_text, quoted_text}
 use Rattle.lq_model.specs.SqlParser.{to_end}
 use Rattle.lq_model.specs.SqlStatement.{statement}
 use Rattle.lq_model.specs.SqlText.{statement_in}

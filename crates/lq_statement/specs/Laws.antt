@@ -1,12 +1,12 @@
 -- What holds of the meanings of statements' texts.
-use Rattle.std.specs.Prelude.{◌≡◌, ℕ, true, List, map, Some}
-use Rattle.lq_base.specs.SqlLexeme.{lexemes}
+use Rattle.std.specs.Prelude.{List, Some, map, true, ℕ, ◌≡◌}
+use Rattle.lq_base.specs.Sql.{lexemes}
 use Rattle.lq_base.specs.declared.dialect.Dialect.{Dialect}
 use Rattle.lq_base.specs.declared.lexeme.LexemeSort.{LexemeSort}
 use Rattle.lq_model.specs.SqlText.{statement_in}
 use Rattle.lq_model.specs.SqlWord.{words}
-use Rattle.lq_model.specs.Statement.{is_statement}
 use Rattle.lq_model.specs.StatementText.{text_of}
+use Rattle.lq_model.specs.Step.{is_statement}
 use Rattle.lq_model.specs.declared.statement.Statement.{Statement}
 use Rattle.lq_parse.specs.Laws.{plain, without_trivia}
 

@@ -1,3 +1,2 @@
-pub mod Clauses
 pub mod Laws
-pub mod Settled
+pub mod Clauses

@@ -1,5 +1,5 @@
 ghost use Rattle.std.specs.Prelude.{◌≡◌};
-ghost use Rattle.lq_model.specs.Reads.{Reads};
+ghost use Rattle.lq_model.specs.SqlParser.{Reads};
 ghost use Rattle.lq_model.specs.SqlAlter as spec;
 
 use crate::alter_column::alter_column;

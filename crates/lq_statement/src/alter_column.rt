@@ -1,4 +1,4 @@
-ghost use Rattle.lq_model.specs.Reads.{Reads};
+ghost use Rattle.lq_model.specs.SqlParser.{Reads};
 ghost use Rattle.lq_model.specs.SqlAlter as spec;
 
 use lq_base::{Dialect, Name};

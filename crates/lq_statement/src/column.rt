@@ -1,8 +1,8 @@
 ghost use Rattle.std.specs.List.{list_any};
 ghost use Rattle.std.specs.Prelude.{◌≡◌};
 ghost use Rattle.lq_base.specs.declared.dialect.Dialect.TheVariants.{Postgresql};
-ghost use Rattle.lq_model.specs.Reads.{Reads};
-ghost use Rattle.lq_model.specs.SqlColumn as spec;
+ghost use Rattle.lq_model.specs.SqlParser.{Reads};
+ghost use Rattle.lq_model.specs.SqlTable as spec;
 ghost use Rattle.lq_model.specs.declared.word.WordKind.TheVariants as word;
 ghost use Rattle.lq_statement.specs.Clauses.{with_clause};
 

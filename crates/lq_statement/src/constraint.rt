@@ -1,8 +1,8 @@
 ghost use Rattle.std.specs.Prelude.{◌≡◌};
 ghost use Rattle.lq_base.specs.declared.dialect.Dialect.TheVariants.{Postgresql};
-ghost use Rattle.lq_model.specs.Reads.{Reads};
+ghost use Rattle.lq_model.specs.SqlParser.{Reads};
 ghost use Rattle.lq_model.specs.SqlConstraint as spec;
-ghost use Rattle.lq_statement.specs.Settled.{Settles};
+ghost use Rattle.lq_statement.specs.Clauses.{Settles};
 
 use crate::name::{foreign_name, key_name, unique_name};
 use lq_base::{Dialect, Name};

@@ -1,5 +1,5 @@
-ghost use Rattle.lq_model.specs.Reads.{Reads};
-ghost use Rattle.lq_model.specs.SqlCreate as spec;
+ghost use Rattle.lq_model.specs.SqlParser.{Reads};
+ghost use Rattle.lq_model.specs.SqlStatement as spec;
 
 use crate::table::create_table;
 use lq_base::{Dialect, Literal};

@@ -1,5 +1,5 @@
-ghost use Rattle.lq_model.specs.Reads.{Reads};
-ghost use Rattle.lq_model.specs.SqlDrop as spec;
+ghost use Rattle.lq_model.specs.SqlParser.{Reads};
+ghost use Rattle.lq_model.specs.SqlAlter as spec;
 
 use crate::alter::rename_table_to;
 use lq_base::Dialect;

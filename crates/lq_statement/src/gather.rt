@@ -1,5 +1,5 @@
 ghost use Rattle.std.specs.Prelude.{◌≡◌, ◌++◌, OnOk};
-ghost use Rattle.lq_model.specs.Reads.{Gives};
+ghost use Rattle.lq_model.specs.SqlParser.{Gives};
 ghost use Rattle.lq_model.specs.SqlTable as spec;
 
 use lq_base::{Duplicate, Items, Name, NoMemory};

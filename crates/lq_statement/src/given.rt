@@ -1,4 +1,4 @@
-ghost use Rattle.lq_model.specs.Reads.{Gives};
+ghost use Rattle.lq_model.specs.SqlParser.{Gives};
 
 use lq_model::ParseFault;
 

@@ -1,6 +1,6 @@
 ghost use Rattle.std.specs.Prelude.{◌≡◌, [], ◌∷◌, IfOk, None};
-ghost use Rattle.lq_model.specs.SqlColumn as spec;
-ghost use Rattle.lq_statement.specs.Settled.{Settles};
+ghost use Rattle.lq_model.specs.SqlTable as spec;
+ghost use Rattle.lq_statement.specs.Clauses.{Settles};
 
 use crate::name::{foreign_name, key_name, unique_name};
 use lq_base::{Dialect, Duplicate, Items, Name, NoMemory};

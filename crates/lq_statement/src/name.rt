@@ -1,6 +1,6 @@
 ghost use Rattle.lq_base.specs.declared.name.Name.{Name};
-ghost use Rattle.lq_model.specs.DefaultName as spec;
-ghost use Rattle.lq_model.specs.Reads.{Gives};
+ghost use Rattle.lq_model.specs.Sound as spec;
+ghost use Rattle.lq_model.specs.SqlParser.{Gives};
 ghost use Rattle.lq_model.specs.SqlPart.{name_of};
 
 use lq_base::{Dialect, Name};

@@ -1,4 +1,4 @@
-ghost use Rattle.lq_model.specs.Reads.{Reads};
+ghost use Rattle.lq_model.specs.SqlParser.{Reads};
 ghost use Rattle.lq_model.specs.SqlRows as spec;
 
 use lq_base::{Dialect, Items, Literal, Name};

@@ -1,4 +1,4 @@
-ghost use Rattle.lq_model.specs.Reads.{Gives, Reads};
+ghost use Rattle.lq_model.specs.SqlParser.{Gives, Reads};
 ghost use Rattle.lq_model.specs.SqlParser as parser;
 ghost use Rattle.lq_model.specs.SqlStatement as spec;
 ghost use Rattle.lq_model.specs.SqlText.{statement_in};

@@ -1,4 +1,4 @@
-ghost use Rattle.lq_model.specs.Reads.{Reads};
+ghost use Rattle.lq_model.specs.SqlParser.{Reads};
 ghost use Rattle.lq_model.specs.SqlTable as spec;
 
 use crate::column::{column_of, stated_column};

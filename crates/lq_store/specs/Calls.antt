@@ -1,21 +1,20 @@
 -- What each call of a store may answer, and what it leaves.
 use Rattle.std.specs.List.{last_or}
-use Rattle.std.specs.Prelude.{◌≡◌, ◌≤◌, Bool, IfSome, List, None, Some, Result, Ok, Err, [], ◌∷◌, false, map, suc, true, unwrap_or, zero, ℕ, ◌++◌}
 use Rattle.std.specs.Option.{option_map}
-use Rattle.lq_codec.specs.Database.{bytes_of}
+use Rattle.std.specs.Prelude.{Bool, Err, IfSome, List, None, Ok, Result, Some, [], false, map, suc, true, unwrap_or, zero, ℕ, ◌++◌, ◌∷◌, ◌≡◌, ◌≤◌}
+use Rattle.lq_codec.specs.Tables.{bytes_of}
 use Rattle.lq_model.specs.Catalogue.{Catalogue}
 use Rattle.lq_model.specs.declared.caller.By.{By}
 use Rattle.lq_model.specs.declared.caller.ByText.{ByText}
 use Rattle.lq_model.specs.declared.caller.Room.{Room}
 use Rattle.lq_model.specs.declared.caller.Room.TheVariants.{Ordinary}
 use Rattle.lq_model.specs.declared.fault.StoreFault.{StoreFault}
-use Rattle.lq_model.specs.declared.fault.StoreFault.TheVariants.{Refused, NotSql, Busy, Disk, Full, OutOfMemory}
-use Rattle.lq_outside.specs.Count.{Rose}
-use Rattle.lq_store.specs.Journal.{Entry, IsFrontOf, end_of, is_full, size_of_all}
+use Rattle.lq_model.specs.declared.fault.StoreFault.TheVariants.{Busy, Disk, Full, NotSql, OutOfMemory, Refused}
+use Rattle.lq_outside.specs.Forms.{Rose}
+use Rattle.lq_store.specs.Journal.{Entry, IsFrontOf, State, end_of, is_full, other, size_of_all, with_entries}
 use Rattle.lq_store.specs.Journal.Entry.{Stated, Texts}
-use Rattle.lq_store.specs.State.{State, other, with_entries}
-use Rattle.lq_store.specs.Work.{End, Outcome, Work, closed, committed, kept_open, outcome, outcome_all, work_of, work_in}
-use Rattle.lq_store.specs.Work.End.{Ran, Stopped, NoStatement}
+use Rattle.lq_store.specs.Work.{End, Outcome, Work, closed, committed, kept_open, outcome, outcome_all, work_in, work_of}
+use Rattle.lq_store.specs.Work.End.{NoStatement, Ran, Stopped}
 
 -- the entries have room
 abbrev pub HasRoom : Room → List Entry → State → Type 0

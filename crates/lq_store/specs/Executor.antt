@@ -1,5 +1,5 @@
 -- What an executor of statements holds, and what its calls leave.
-use Rattle.std.specs.Prelude.{◌≡◌, Err, List, Ok, Result, [], ℕ, ◌∷◌}
+use Rattle.std.specs.Prelude.{Err, List, Ok, Result, [], ℕ, ◌∷◌, ◌≡◌}
 use Rattle.lq_base.specs.declared.dialect.Dialect.{Dialect}
 use Rattle.lq_base.specs.declared.reason.Reason.{Reason}
 use Rattle.lq_model.specs.Catalogue.{Catalogue}

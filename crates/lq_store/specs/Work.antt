@@ -1,18 +1,16 @@
 -- The work of one call on a transaction: which entries it writes, and what stands afterwards.
-use Rattle.std.specs.Prelude.{Bool, List, Option, None, Some, Result, Ok, Err, [], true, false, ℕ, ◌++◌, ◌∷◌}
+use Rattle.std.specs.Prelude.{Bool, Err, List, None, Ok, Option, Result, Some, [], false, true, ℕ, ◌++◌, ◌∷◌}
 use Rattle.lq_base.specs.declared.dialect.Dialect.{Dialect}
 use Rattle.lq_base.specs.declared.reason.Reason.{Reason}
 use Rattle.lq_model.specs.Catalogue.{Catalogue}
 use Rattle.lq_model.specs.Script.{if_any}
 use Rattle.lq_model.specs.SqlText.{statement_in}
-use Rattle.lq_model.specs.Commits.{commits_itself}
-use Rattle.lq_model.specs.Step.{step}
+use Rattle.lq_model.specs.Step.{commits_itself, step}
 use Rattle.lq_model.specs.declared.caller.By.{By}
 use Rattle.lq_model.specs.declared.caller.ByText.{ByText}
 use Rattle.lq_model.specs.declared.statement.Statement.{Statement}
-use Rattle.lq_store.specs.Journal.{Entry, of_texts}
+use Rattle.lq_store.specs.Journal.{Entry, State, Transaction, of_texts, with_entries}
 use Rattle.lq_store.specs.Journal.Entry.{Texts}
-use Rattle.lq_store.specs.State.{State, Transaction, with_entries}
 
 pub record Work : Type 0 where
   -- the entries that the call writes

@@ -1,8 +1,7 @@
 ghost use Rattle.std.specs.Prelude.{◌≡◌, [], true};
 ghost use Rattle.lq_model.specs.Catalogue.{no_objects};
-ghost use Rattle.lq_model.specs.Statement.{is_statement};
-ghost use Rattle.lq_model.specs.Step.{step};
-ghost use Rattle.lq_store.specs.Apart.{is_apart};
+ghost use Rattle.lq_model.specs.Step.{is_statement, step};
+ghost use Rattle.lq_store.specs.Journal.{is_apart};
 ghost use Rattle.lq_store.specs.Executor.{Held, Runs, back, forgotten, holding, undone};
 ghost use Rattle.lq_track.specs.Database.{users_of};
 

@@ -1,5 +1,5 @@
 ghost use Rattle.std.specs.Prelude.{◌≡◌, [], IfOk, None, Some};
-ghost use Rattle.lq_codec.specs.Database.{bytes_of};
+ghost use Rattle.lq_codec.specs.Tables.{bytes_of};
 ghost use Rattle.lq_codec.specs.State.{state_of};
 ghost use Rattle.lq_model.specs.Sound.{IsSound};
 ghost use Rattle.lq_store.specs.Executor.{holding};

@@ -1,6 +1,6 @@
 ghost use Rattle.std.specs.List.{starts_with};
 ghost use Rattle.std.specs.Prelude.{◌≡◌, ◌&&◌, IfSome, None, codes, eqb, if◌then◌else◌, true};
-ghost use Rattle.lq_base.specs.Text.{is_text};
+ghost use Rattle.lq_base.specs.Name.{is_text};
 
 use lq_base::Text;
 

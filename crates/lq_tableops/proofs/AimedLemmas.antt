@@ -5,10 +5,8 @@ use Rattle.std.specs.Option.{unwrap_or}
 use Rattle.std.specs.Prelude.{Option, Some, is_none}
 use Rattle.lq_base.specs.Name.{is_named}
 use Rattle.lq_base.specs.declared.name.Name.{Name}
-use Rattle.lq_model.specs.Catalogue.{Catalogue, Table, no_table, table_of, the_table, with_new}
+use Rattle.lq_model.specs.Catalogue.{Catalogue, Table, no_table, table_of, the_table, with_new, same_names, column_missing, target_lists}
 use Rattle.lq_model.specs.Kinds.{kinds_at, same_kinds}
-use Rattle.lq_model.specs.Names.{same_names}
-use Rattle.lq_model.specs.TableNames.{column_missing, target_lists}
 use Rattle.lq_model.specs.declared.constraint.ForeignKey.{ForeignKey}
 use Rattle.lq_model.proofs.Maps.{lookup-insert_entry}
 use Rattle.lq_shapes.proofs.ShownLemmas.{either_way}

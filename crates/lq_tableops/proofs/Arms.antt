@@ -3,7 +3,7 @@ use Rattle.std.proofs.Common.{sym, ◌∙◌, ◌≡◌}
 use Rattle.std.specs.Prelude.{Ok, Result, false}
 use Rattle.lq_model.specs.Plan.{Plan}
 use Rattle.lq_decide.specs.Faults.{Faults}
-use Rattle.lq_rows.specs.Answers.{Means}
+use Rattle.lq_rows.specs.Stored.{Means}
 use Rattle.lq_rows.specs.declared.fault.RunFault.{RunFault}
 use Rattle.lq_arm.specs.Verdict.{tests_of, verdict_of}
 use Rattle.lq_arm.specs.declared.tests.Tests.{Tests}

@@ -6,11 +6,8 @@ use Rattle.lq_base.specs.Name.{beside, is_named}
 use Rattle.lq_base.specs.declared.dialect.Dialect.TheVariants.{Postgresql}
 use Rattle.lq_base.specs.declared.name.Name.{Name}
 use Rattle.lq_decide.proofs.Lists.{or-false}
-use Rattle.lq_model.specs.Catalogue.{Catalogue}
-use Rattle.lq_model.specs.NameSpaces.{shared_names}
-use Rattle.lq_model.specs.Names.{is_in}
-use Rattle.lq_model.specs.Reserved.{is_reserved, is_tracking, lock_key, takes_lock_key}
-use Rattle.lq_model.specs.TableNames.{placed}
+use Rattle.lq_model.specs.Catalogue.{Catalogue, is_in, placed}
+use Rattle.lq_model.specs.NameSpaces.{shared_names, is_reserved, is_tracking, lock_key, takes_lock_key}
 use Rattle.lq_model.specs.declared.caller.By.{By}
 use Rattle.lq_model.specs.declared.caller.By.TheVariants.{Program, User}
 use Rattle.lq_model.proofs.Lists.{any-map, any_same}

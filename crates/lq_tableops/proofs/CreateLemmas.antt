@@ -5,13 +5,10 @@ use Rattle.std.specs.Prelude.{None, Ok, Option, Result}
 use Rattle.lq_base.specs.Value.{into_kind}
 use Rattle.lq_base.specs.declared.dialect.Dialect.{Dialect}
 use Rattle.lq_base.specs.declared.name.Name.{Name}
-use Rattle.lq_model.specs.Catalogue.{Catalogue, Table, table_of, with_new}
-use Rattle.lq_model.specs.CreateTable.{create_table, depends_in, key_column, lacks_own, lists_twice, new_table, numbers_wrongly, repeats_number, target_missing}
-use Rattle.lq_model.specs.Kinds.{kinds_differ}
-use Rattle.lq_model.specs.Literals.{column_of, is_wrong, literal_of}
-use Rattle.lq_model.specs.NameSpaces.{are_clashing, is_taken}
-use Rattle.lq_model.specs.Reserved.{is_reserved, takes_lock_key}
-use Rattle.lq_model.specs.TableNames.{constraint_names, inner_names, placed}
+use Rattle.lq_model.specs.Catalogue.{Catalogue, Table, table_of, with_new, constraint_names, inner_names, placed}
+use Rattle.lq_model.specs.Tables.{create_table, depends_in, key_column, lacks_own, lists_twice, new_table, numbers_wrongly, repeats_number, target_missing}
+use Rattle.lq_model.specs.Kinds.{kinds_differ, column_of, is_wrong, literal_of}
+use Rattle.lq_model.specs.NameSpaces.{are_clashing, is_taken, is_reserved, takes_lock_key}
 use Rattle.lq_model.specs.declared.caller.By.{By}
 use Rattle.lq_model.specs.declared.column.Column.{Column}
 use Rattle.lq_model.specs.declared.column.ColumnDef.{ColumnDef}
@@ -22,8 +19,7 @@ use Rattle.lq_model.proofs.Absent.{free_of}
 use Rattle.lq_model.proofs.Decide.{none_from_unless}
 use Rattle.lq_model.proofs.Lists.{map-map, or_left}
 use Rattle.lq_decide.specs.Faults.{create_table_faults, misses_new}
-use Rattle.lq_rows.specs.Answers.{Means}
-use Rattle.lq_rows.specs.Stored.{Stored, stored, table_as}
+use Rattle.lq_rows.specs.Stored.{Means, Stored, stored, table_as}
 use Rattle.lq_rows.specs.declared.shape.Shape.{Shape}
 use Rattle.lq_rows.specs.declared.fault.RunFault.{RunFault}
 use Rattle.lq_arm.specs.Verdict.{listed, tests_of, verdict_of}

@@ -6,10 +6,8 @@ use denote.Ref.{Bor}
 use Rattle.lq_base.specs.Name.{is_named}
 use Rattle.lq_base.specs.declared.dialect.Dialect.TheVariants.{Mysql, Postgresql}
 use Rattle.lq_base.specs.declared.name.Name.{Name}
-use Rattle.lq_model.specs.Catalogue.{Catalogue}
+use Rattle.lq_model.specs.Catalogue.{Catalogue, is_in, repeats, constraint_names, inner_names, key_list, placed}
 use Rattle.lq_model.specs.NameSpaces.{all_foreign_names, are_clashing, is_taken, object_names, shared_names}
-use Rattle.lq_model.specs.Names.{is_in, repeats}
-use Rattle.lq_model.specs.TableNames.{constraint_names, inner_names, key_list, placed}
 use Rattle.lq_model.specs.declared.column.Column.{Column}
 use Rattle.lq_model.specs.declared.constraint.ForeignKey.{ForeignKey}
 use Rattle.lq_model.specs.declared.constraint.Key.{Key}

@@ -4,11 +4,9 @@ use Rattle.std.specs.List.{list_any}
 use Rattle.lq_base.specs.Name.{is_named}
 use Rattle.lq_base.specs.declared.name.Name.{Name}
 use Rattle.lq_model.proofs.Lists.{and_no_right, any_less, not_false, same_name, true_false, whether}
-use Rattle.lq_model.specs.Catalogue.{Catalogue, the_table}
-use Rattle.lq_model.specs.Names.{is_empty, same_names}
-use Rattle.lq_model.specs.Needs.{is_targeted, targets_table}
-use Rattle.lq_model.specs.ResultTests.{is_loose, misses_target}
-use Rattle.lq_model.specs.TableNames.{key_list, target_lists}
+use Rattle.lq_model.specs.Catalogue.{Catalogue, the_table, is_empty, same_names, key_list, target_lists}
+use Rattle.lq_model.specs.Tables.{is_targeted, targets_table}
+use Rattle.lq_model.specs.Plan.{is_loose, misses_target}
 use Rattle.lq_model.specs.declared.constraint.ForeignKey.{ForeignKey}
 use Rattle.lq_model.specs.declared.constraint.Key.{Key}
 use Rattle.lq_model.specs.declared.constraint.Unique.{Unique}

@@ -3,11 +3,9 @@ use Rattle.std.specs.List.{list_any}
 use Rattle.std.specs.Prelude.{Bool, List, not, ◌||◌, ◌≡◌}
 use Rattle.lq_base.specs.declared.name.Name.{Name}
 use Rattle.lq_decide.specs.Faults.{misses_new}
-use Rattle.lq_model.specs.Catalogue.{Catalogue, Table, with_new}
-use Rattle.lq_model.specs.CreateTable.{target_missing}
+use Rattle.lq_model.specs.Catalogue.{Catalogue, Table, column_missing, same_names, target_lists, with_new}
 use Rattle.lq_model.specs.Kinds.{kinds_at, kinds_differ, same_kinds}
-use Rattle.lq_model.specs.Names.{same_names}
-use Rattle.lq_model.specs.TableNames.{column_missing, target_lists}
+use Rattle.lq_model.specs.Tables.{target_missing}
 use Rattle.lq_model.specs.declared.constraint.ForeignKey.{ForeignKey}
 use Rattle.lq_tableops.specs.declared.aims.Aim.{Aim}
 

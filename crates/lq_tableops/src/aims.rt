@@ -2,9 +2,7 @@ ghost use Rattle.std.specs.List.{list_any};
 ghost use Rattle.std.specs.Option.{option_copied};
 ghost use Rattle.std.specs.Prelude.{◌≡◌, ◌++◌, [], IfOk, false, is_none, map, not};
 ghost use Rattle.lq_model.specs.Catalogue as catalogue;
-ghost use Rattle.lq_model.specs.Catalogue.{table_of, the_table};
-ghost use Rattle.lq_model.specs.Names.{same_names};
-ghost use Rattle.lq_model.specs.TableNames.{key_list};
+ghost use Rattle.lq_model.specs.Catalogue.{table_of, the_table, same_names, key_list};
 ghost use Rattle.lq_shapes.specs.Created.{made};
 ghost use Rattle.lq_tableops.specs.Aimed.{AimsAt, AreAims, IsAim};
 

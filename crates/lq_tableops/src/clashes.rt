@@ -1,10 +1,8 @@
 ghost use Rattle.std.specs.List.{list_any};
 ghost use Rattle.std.specs.Prelude.{◌≡◌, ◌∷◌, ◌||◌, [], IfOk, map};
 ghost use Rattle.lq_base.specs.Name.{beside, is_named};
-ghost use Rattle.lq_model.specs.NameSpaces.{all_foreign_names, shared_names};
-ghost use Rattle.lq_model.specs.Names.{is_in};
-ghost use Rattle.lq_model.specs.Reserved.{is_reserved, lock_key, takes_lock_key};
-ghost use Rattle.lq_model.specs.TableNames.{placed};
+ghost use Rattle.lq_model.specs.NameSpaces.{all_foreign_names, shared_names, is_reserved, lock_key, takes_lock_key};
+ghost use Rattle.lq_model.specs.Catalogue.{is_in, placed};
 
 use lq_base::{Dialect, Name, NoMemory, placed};
 use lq_model::By;

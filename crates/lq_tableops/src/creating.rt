@@ -1,10 +1,10 @@
 ghost use Rattle.std.specs.Prelude.{◌≡◌, IfOk};
-ghost use Rattle.lq_model.specs.CreateTable as spec;
+ghost use Rattle.lq_model.specs.Tables as spec;
 ghost use Rattle.lq_model.specs.Plan.{decide};
 ghost use Rattle.lq_model.specs.Sound.{IsSound};
 ghost use Rattle.lq_decide.specs.Faults.{create_table_faults};
 ghost use Rattle.lq_arm.specs.Verdict.{tests_of, verdict_of};
-ghost use Rattle.lq_rows.specs.Answers.{Answers};
+ghost use Rattle.lq_rows.specs.Stored.{Answers};
 ghost use Rattle.lq_shapes.specs.Created.{IsDefined};
 
 use crate::aims::aims;

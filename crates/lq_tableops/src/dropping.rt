@@ -1,12 +1,11 @@
 ghost use Rattle.std.specs.Prelude.{◌≡◌, false};
 ghost use Rattle.lq_base.specs.declared.dialect.Dialect as kinds;
-ghost use Rattle.lq_model.specs.DropTable as spec;
-ghost use Rattle.lq_model.specs.Plan.{decide};
-ghost use Rattle.lq_model.specs.ResultTests.{is_loose};
+ghost use Rattle.lq_model.specs.Tables as spec;
+ghost use Rattle.lq_model.specs.Plan.{decide, is_loose};
 ghost use Rattle.lq_model.specs.Sound.{IsSound};
 ghost use Rattle.lq_decide.specs.Faults.{no_faults};
 ghost use Rattle.lq_arm.specs.Verdict.{tests_of, verdict_of};
-ghost use Rattle.lq_rows.specs.Answers.{Answers};
+ghost use Rattle.lq_rows.specs.Stored.{Answers};
 
 use crate::needs::{is_targeted, is_viewed};
 use lq_arm::Tests;

@@ -1,10 +1,8 @@
 ghost use Rattle.std.specs.List.{list_any};
 ghost use Rattle.std.specs.Prelude.{◌≡◌, ◌++◌, ◌∷◌, ◌||◌, IfOk, List, OnOk, map};
 ghost use Rattle.lq_base.specs.Name.{beside, is_named};
-ghost use Rattle.lq_model.specs.NameSpaces.{all_foreign_names, are_clashing, is_taken, shared_names};
-ghost use Rattle.lq_model.specs.Names.{is_in, repeats};
-ghost use Rattle.lq_model.specs.Reserved.{is_reserved, takes_lock_key};
-ghost use Rattle.lq_model.specs.TableNames.{constraint_names, inner_names, placed};
+ghost use Rattle.lq_model.specs.NameSpaces.{all_foreign_names, are_clashing, is_taken, shared_names, is_reserved, takes_lock_key};
+ghost use Rattle.lq_model.specs.Catalogue.{is_in, repeats, constraint_names, inner_names, placed};
 ghost use Rattle.lq_model.specs.declared.column.Column.{Column};
 ghost use Rattle.lq_base.specs.declared.dialect.Dialect.TheVariants as dialects;
 ghost use Rattle.lq_shapes.specs.Created.{made};

@@ -1,10 +1,9 @@
 ghost use Rattle.std.specs.List.{list_any};
 ghost use Rattle.std.specs.Prelude.{◌≡◌, ◌&&◌, ◌||◌, false, is_some, not};
 ghost use Rattle.lq_base.specs.Name.{is_named};
-ghost use Rattle.lq_model.specs.Catalogue.{the_table};
-ghost use Rattle.lq_model.specs.Names.{is_empty};
-ghost use Rattle.lq_model.specs.Needs.{is_targeted, is_viewed, targets_table};
-ghost use Rattle.lq_model.specs.ResultTests.{is_loose};
+ghost use Rattle.lq_model.specs.Catalogue.{the_table, is_empty};
+ghost use Rattle.lq_model.specs.Tables.{is_targeted, is_viewed, targets_table};
+ghost use Rattle.lq_model.specs.Plan.{is_loose};
 
 use lq_base::Name;
 use lq_parts::Parts;

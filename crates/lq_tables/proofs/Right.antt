@@ -3,7 +3,7 @@ use Rattle.std.specs.Option.{option_map}
 use Rattle.std.specs.Prelude.{Bool, Err, IfOk, IfSome, List, None, Ok, Option, Some, [], codes, if◌then◌else◌, is_none, is_some, nat_le, option_and_then, refl, true, false, ℕ, drop, length, take, ◌&&◌, ◌+◌, ◌∷◌, ◌≡◌}
 use Rattle.std.specs.Str.{is_utf8}
 use Rattle.lq_base.specs.Name.{is_name}
-use Rattle.lq_base.specs.Options.{if_there}
+use Rattle.lq_base.specs.Number.{if_there}
 use Rattle.lq_base.specs.declared.dialect.Dialect.{Dialect}
 use Rattle.lq_base.specs.declared.fault.KindFault.TheVariants.{Missing}
 use Rattle.lq_base.specs.declared.name.Name.{Name}
@@ -11,7 +11,7 @@ use Rattle.lq_model.proofs.Lists.{and_true}
 use Rattle.lq_model.specs.declared.table_item.Target.{Target}
 use Rattle.lq_tree.proofs.Says.{IsIfThere, IsSo, Takes, all_found, anything, change_in_so, column_so, family_so, given, kind_so, map_with_so, name_so, optional_so, required_items_so, required_so, start, then_so}
 use Rattle.lq_tree.proofs.Schemas.{object_within}
-use Rattle.lq_tree.specs.Found.{Found, or_bad}
+use Rattle.lq_tree.specs.Look.{Found, or_bad}
 use Rattle.lq_tree.specs.Given.{a_text, a_truth, if_so}
 use Rattle.lq_tree.specs.Keys.{map_with, optional}
 use Rattle.lq_tables.specs.AddColumn as add_column

@@ -4,7 +4,7 @@ use Rattle.std.specs.Option.{option_and_then, option_map, option_to_list, unwrap
 use Rattle.std.specs.Prelude.{Bool, Err, List, None, Ok, Option, Result, Some, [], codes, false, if◌then◌else◌, is_none, is_some, map, not, true, ◌&&◌, ◌++◌, ◌∷◌}
 use Rattle.lq_base.specs.Kind.{is_kind}
 use Rattle.lq_base.specs.Name.{is_name, is_object, text_of, within}
-use Rattle.lq_base.specs.Options.{if_there}
+use Rattle.lq_base.specs.Number.{if_there}
 use Rattle.lq_base.specs.Value.{into_kind}
 use Rattle.lq_base.specs.declared.dialect.Dialect.{Dialect}
 use Rattle.lq_base.specs.declared.dialect.Dialect.TheVariants.{Mysql, Postgresql}
@@ -13,29 +13,28 @@ use Rattle.lq_base.specs.declared.name.Name.{Name}
 use Rattle.lq_base.specs.declared.reason.Reason.{Reason}
 use Rattle.lq_base.specs.declared.value.Value.{Value}
 use Rattle.lq_base.specs.declared.value.Value.TheVariants as value
-use Rattle.lq_model.specs.Canon.{CanonicalChange, kind_value, list, map_of, text, truth}
+use Rattle.lq_last_first.specs.LastFirst.{last_first}
 use Rattle.lq_model.specs.Catalogue.{Catalogue, Table, the_table, with_table}
+use Rattle.lq_model.specs.Changes.{CanonicalChange, kind_value, list, map_of, text, truth}
 use Rattle.lq_model.specs.Effect.{effect_of}
-use Rattle.lq_model.specs.Literals.{value_in}
-use Rattle.lq_model.specs.Written.{Row, change_of, maps, pairs_of, schema_row}
+use Rattle.lq_model.specs.Kinds.{value_in}
+use Rattle.lq_model.specs.TakesBack.{Row, change_of, maps, pairs_of, schema_row}
 use Rattle.lq_model.specs.declared.column.Column.{Column}
 use Rattle.lq_model.specs.declared.column.ColumnDef.{ColumnDef}
 use Rattle.lq_model.specs.declared.constraint.ForeignKey.{ForeignKey}
 use Rattle.lq_model.specs.declared.constraint.Unique.{Unique}
 use Rattle.lq_model.specs.declared.statement.Statement.{Statement}
 use Rattle.lq_model.specs.declared.statement.Statement.TheVariants as statement
-use Rattle.lq_tree.specs.Found.{Found, Taken, and_then}
-use Rattle.lq_tree.specs.Given.{a_kind, a_name, a_truth}
-use Rattle.lq_tree.specs.Items.{a_column, are_some, required_items}
-use Rattle.lq_tree.specs.Keys.{Keys, a_change_in, fields, map_with, optional, required, ◌⊛◌}
-use Rattle.lq_tree.specs.Values.{is_given, literal_of}
-use Rattle.lq_tree.specs.declared.values.GivenValue.{GivenValue}
-use Rattle.lq_tables.specs.Constraints.{a_reference, foreign_stated, is_reference, unique_stated}
-use Rattle.lq_tables.specs.ValueKeys.{default_keys, default_rows, set_keys, set_rows}
+use Rattle.lq_tables.specs.Constraints.{a_reference, default_keys, default_rows, foreign_stated, is_reference, set_keys, set_rows, unique_stated}
 use Rattle.lq_tables.specs.declared.add_column.AddColumn.{AddColumn}
 use Rattle.lq_tables.specs.declared.add_column.AddedColumn.{AddedColumn}
 use Rattle.lq_tables.specs.declared.add_column.AddedConstraints.{AddedConstraints}
-use Rattle.lq_last_first.specs.LastFirst.{last_first}
+use Rattle.lq_tree.specs.Given.{a_kind, a_name, a_truth}
+use Rattle.lq_tree.specs.Items.{a_column, are_some, required_items}
+use Rattle.lq_tree.specs.Keys.{Keys, a_change_in, fields, map_with, optional, required, ◌⊛◌}
+use Rattle.lq_tree.specs.Look.{Found, Taken, and_then}
+use Rattle.lq_tree.specs.Values.{is_given, literal_of}
+use Rattle.lq_tree.specs.declared.values.GivenValue.{GivenValue}
 
 -- its keys
 

@@ -3,9 +3,10 @@ use Rattle.std.proofs.Common.{ap, subst, sym, ◌∙◌}
 use Rattle.std.specs.List.{flat_map, list_all}
 use Rattle.std.specs.Option.{option_map, option_to_list, unwrap_or}
 use Rattle.std.specs.Prelude.{Bool, List, None, Ok, Option, Some, [], codes, cond, false, if◌then◌else◌, map, not, option_and_then, refl, true, ℕ, ◌&&◌, ◌++◌, ◌∷◌, ◌≡◌}
+use Rattle.lq_base.proofs.BesideLemmas.{is_whole}
 use Rattle.lq_base.specs.Kind.{is_kind}
 use Rattle.lq_base.specs.Name.{is_name, is_name_key, is_named, is_object}
-use Rattle.lq_base.specs.Options.{if_there}
+use Rattle.lq_base.specs.Number.{if_there}
 use Rattle.lq_base.specs.Value.{into_kind, is_value_of}
 use Rattle.lq_base.specs.declared.dialect.Dialect.{Dialect}
 use Rattle.lq_base.specs.declared.dialect.Dialect.TheVariants.{Mysql, Postgresql}
@@ -22,34 +23,23 @@ use Rattle.lq_model.proofs.Lists.{all-append, and_left, and_right, and_true, app
 use Rattle.lq_model.proofs.Told.{if_told, keys_told, kind_told, map_if_told, map_told, maps_told, object_told, text_told, texts_told, truths_told}
 use Rattle.lq_model.proofs.UndoConstraints.{drop_after_foreign_key, drop_after_unique}
 use Rattle.lq_model.proofs.UndoMysql.{drop_foreign_key_after, drop_unique_after}
-use Rattle.lq_model.specs.AddConstraint.{with_foreign, with_unique}
-use Rattle.lq_model.specs.Canon.{map_of, text}
-use Rattle.lq_model.specs.Catalogue.{Catalogue, Table, table_of, the_table, with_table}
-use Rattle.lq_model.specs.ChangeColumn.{changed_at, made_nullable, modified, with_changed}
-use Rattle.lq_model.specs.Changes.{AreReturns, AreStatements, AreTold, HaveEffect, TakeBack}
-use Rattle.lq_model.specs.Columns.{with_column}
+use Rattle.lq_model.specs.Catalogue.{Catalogue, IsWidened, Table, has_column, is_empty, is_in, row_fits, table_of, the_table, with_table}
+use Rattle.lq_model.specs.Changes.{AreReturns, AreStatements, AreTold, HaveEffect, TakeBack, map_of, text}
+use Rattle.lq_model.specs.Comparison.{is_literal}
+use Rattle.lq_model.specs.Constraints.{with_foreign, with_unique}
 use Rattle.lq_model.specs.Effect.{Becomes, GoesBack}
-use Rattle.lq_model.specs.Kinds.{kind_in}
-use Rattle.lq_model.specs.Literals.{column_of, default_value, value_in}
-use Rattle.lq_model.specs.Names.{is_empty, is_in}
-use Rattle.lq_model.specs.Row.{row_fits}
+use Rattle.lq_model.specs.Kinds.{column_of, default_value, kind_in, value_in}
+use Rattle.lq_model.specs.Rows.{edited, set_in}
 use Rattle.lq_model.specs.Sound.{IsSound}
-use Rattle.lq_model.specs.Spelled.{is_literal}
-use Rattle.lq_model.specs.Statement.{is_column_def, is_foreign, is_statement, is_unique}
-use Rattle.lq_model.specs.Step.{plan, run, step}
-use Rattle.lq_model.specs.TableNames.{has_column}
-use Rattle.lq_model.specs.Update.{edited, set_in}
-use Rattle.lq_model.specs.Widened.{IsWidened}
-use Rattle.lq_model.specs.Written.{nth_value, pairs_of}
+use Rattle.lq_model.specs.Step.{is_column_def, is_foreign, is_statement, is_unique, plan, run, step}
+use Rattle.lq_model.specs.Tables.{changed_at, made_nullable, modified, with_changed, with_column}
+use Rattle.lq_model.specs.TakesBack.{nth_value, pairs_of}
 use Rattle.lq_model.specs.declared.caller.By.TheVariants.{User}
 use Rattle.lq_model.specs.declared.column.Column.{Column}
 use Rattle.lq_model.specs.declared.constraint.ForeignKey.{ForeignKey}
 use Rattle.lq_model.specs.declared.constraint.Unique.{Unique}
 use Rattle.lq_model.specs.declared.statement.Statement.{Statement}
 use Rattle.lq_model.specs.declared.statement.Statement.TheVariants as statement
-use Rattle.lq_tree.specs.Items.{are_some}
-use Rattle.lq_tree.specs.Values.{is_given, literal_of}
-use Rattle.lq_tree.specs.declared.values.GivenValue.{GivenValue}
 use Rattle.lq_tables.specs.AddColumn.{becomes, becomes_all, canonical_of, column_becomes, column_gives, column_inverse, column_made, column_rows, constraints_rows, def_of, default_of, effect, firms, foreign_of, gives, inverse, inverse_all, is_added, is_constraints, is_firm, is_for, is_fresh, joins, leaves, parts, refers, rows, sets, unique_of, value_made}
 use Rattle.lq_tables.specs.Constraints.{foreign_stated, is_reference, unique_stated}
 use Rattle.lq_tables.specs.ConstraintsLaws.{foreign_spelled, reference_told, unique_spelled}
@@ -58,7 +48,9 @@ use Rattle.lq_tables.specs.declared.add_column.AddColumn.{AddColumn}
 use Rattle.lq_tables.specs.declared.add_column.AddedColumn.{AddedColumn}
 use Rattle.lq_tables.specs.declared.add_column.AddedConstraints.{AddedConstraints}
 use Rattle.lq_tables.specs.declared.constraints.Reference.{Reference}
-use Rattle.lq_base.proofs.BesideLemmas.{is_whole}
+use Rattle.lq_tree.specs.Items.{are_some}
+use Rattle.lq_tree.specs.Values.{is_given, literal_of}
+use Rattle.lq_tree.specs.declared.values.GivenValue.{GivenValue}
 
 -- a column at the end, and the columns and rows before it
 

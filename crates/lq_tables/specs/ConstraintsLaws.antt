@@ -2,21 +2,21 @@
 use Rattle.std.proofs.Common.{ap, sym, ◌∙◌}
 use Rattle.std.specs.Option.{unwrap_or}
 use Rattle.std.specs.Prelude.{Bool, List, None, Option, Some, [], false, if◌then◌else◌, refl, true, ℕ, ◌∷◌, ◌≡◌}
+use Rattle.lq_base.proofs.BesideLemmas.{renamed}
 use Rattle.lq_base.specs.Name.{is_name, is_name_key, is_named, is_object}
-use Rattle.lq_base.specs.Options.{if_there}
-use Rattle.lq_base.specs.declared.dialect.Dialect.TheVariants.{Postgresql}
+use Rattle.lq_base.specs.Number.{if_there}
 use Rattle.lq_base.specs.declared.dialect.Dialect.{Dialect}
+use Rattle.lq_base.specs.declared.dialect.Dialect.TheVariants.{Postgresql}
 use Rattle.lq_base.specs.declared.name.Name.{Name}
 use Rattle.lq_model.proofs.DefaultNames.{default_named}
 use Rattle.lq_model.proofs.Lists.{and_left, and_right, and_true, named_itself, same_name}
 use Rattle.lq_model.proofs.Told.{text_told}
-use Rattle.lq_model.specs.Canon.{text}
-use Rattle.lq_model.specs.DefaultName.{unique_name}
-use Rattle.lq_model.specs.Statement.{is_foreign, is_unique}
+use Rattle.lq_model.specs.Changes.{text}
+use Rattle.lq_model.specs.Sound.{unique_name}
+use Rattle.lq_model.specs.Step.{is_foreign, is_unique}
 use Rattle.lq_model.specs.declared.table_item.Target.{Target}
 use Rattle.lq_tables.specs.Constraints.{foreign_stated, is_reference, is_same_target, is_target, target_of, unique_stated}
 use Rattle.lq_tables.specs.declared.constraints.Reference.{Reference}
-use Rattle.lq_base.proofs.BesideLemmas.{renamed}
 
 pub default_unique : (t n : Name) → is_name_key t ≡ true → is_name n ≡ true → is_name (unique_name t (n ∷ [])) ≡ true
 default_unique t n h k = (default_named Postgresql t (n ∷ []) h (and_true (is_name n) true k refl)).1

@@ -4,35 +4,34 @@ use Rattle.std.specs.Option.{option_and_then, option_map, option_to_list, unwrap
 use Rattle.std.specs.Prelude.{Bool, Err, List, None, Ok, Option, Result, Some, [], codes, false, if◌then◌else◌, is_none, is_some, map, not, true, ◌&&◌, ◌++◌, ◌∷◌}
 use Rattle.lq_base.specs.Kind.{is_kind}
 use Rattle.lq_base.specs.Name.{is_name, is_object, text_of, within}
-use Rattle.lq_base.specs.Options.{if_there}
+use Rattle.lq_base.specs.Number.{if_there}
 use Rattle.lq_base.specs.declared.dialect.Dialect.{Dialect}
 use Rattle.lq_base.specs.declared.dialect.Dialect.TheVariants.{Mysql, Postgresql}
 use Rattle.lq_base.specs.declared.fault.KindFault.TheVariants.{Missing}
 use Rattle.lq_base.specs.declared.name.Name.{Name}
 use Rattle.lq_base.specs.declared.reason.Reason.{Reason}
-use Rattle.lq_model.specs.Canon.{CanonicalChange, kind_value, list, map_of, text, truth}
 use Rattle.lq_model.specs.Catalogue.{Catalogue, Table, with_new}
-use Rattle.lq_model.specs.CreateTable.{key_column}
-use Rattle.lq_model.specs.DefaultName.{key_name}
+use Rattle.lq_model.specs.Changes.{CanonicalChange, kind_value, list, map_of, text, truth}
 use Rattle.lq_model.specs.Effect.{effect_of}
-use Rattle.lq_model.specs.Literals.{column_of}
-use Rattle.lq_model.specs.Written.{Row, change_of, maps, pairs_of, schema_row}
+use Rattle.lq_model.specs.Kinds.{column_of}
+use Rattle.lq_model.specs.Sound.{key_name}
+use Rattle.lq_model.specs.Tables.{key_column}
+use Rattle.lq_model.specs.TakesBack.{Row, change_of, maps, pairs_of, schema_row}
 use Rattle.lq_model.specs.declared.column.ColumnDef.{ColumnDef}
 use Rattle.lq_model.specs.declared.constraint.ForeignKey.{ForeignKey}
 use Rattle.lq_model.specs.declared.constraint.Key.{Key}
 use Rattle.lq_model.specs.declared.constraint.Unique.{Unique}
 use Rattle.lq_model.specs.declared.statement.Statement.{Statement}
 use Rattle.lq_model.specs.declared.statement.Statement.TheVariants as statement
-use Rattle.lq_tree.specs.Found.{Found, Taken, and_then}
-use Rattle.lq_tree.specs.Given.{a_kind, a_name, a_truth}
-use Rattle.lq_tree.specs.Items.{a_column, are_some, required_items}
-use Rattle.lq_tree.specs.Keys.{Keys, a_change_in, fields, map_with, optional, required, ◌⊛◌}
-use Rattle.lq_tree.specs.Values.{is_given, literal_of}
-use Rattle.lq_tables.specs.Constraints.{a_reference, foreign_stated, is_reference, unique_stated}
-use Rattle.lq_tables.specs.ValueKeys.{default_keys, default_rows}
+use Rattle.lq_tables.specs.Constraints.{a_reference, default_keys, default_rows, foreign_stated, is_reference, unique_stated}
 use Rattle.lq_tables.specs.declared.create_table.CreateTable.{CreateTable}
 use Rattle.lq_tables.specs.declared.create_table.CreatedColumn.{CreatedColumn}
 use Rattle.lq_tables.specs.declared.create_table.CreatedConstraints.{CreatedConstraints}
+use Rattle.lq_tree.specs.Given.{a_kind, a_name, a_truth}
+use Rattle.lq_tree.specs.Items.{a_column, are_some, required_items}
+use Rattle.lq_tree.specs.Keys.{Keys, a_change_in, fields, map_with, optional, required, ◌⊛◌}
+use Rattle.lq_tree.specs.Look.{Found, Taken, and_then}
+use Rattle.lq_tree.specs.Values.{is_given, literal_of}
 
 -- its keys
 

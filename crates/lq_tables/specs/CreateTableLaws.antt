@@ -3,9 +3,10 @@ use Rattle.std.proofs.Common.{ap, subst, sym, ◌∙◌}
 use Rattle.std.specs.List.{flat_map, list_all}
 use Rattle.std.specs.Option.{option_and_then, option_map, option_to_list, unwrap_or}
 use Rattle.std.specs.Prelude.{Bool, List, None, Option, Some, [], codes, false, if◌then◌else◌, map, not, refl, true, ◌∷◌, ◌≡◌}
+use Rattle.lq_base.proofs.BesideLemmas.{is_whole}
 use Rattle.lq_base.specs.Kind.{is_kind}
 use Rattle.lq_base.specs.Name.{is_name, is_name_key, is_object}
-use Rattle.lq_base.specs.Options.{if_there}
+use Rattle.lq_base.specs.Number.{if_there}
 use Rattle.lq_base.specs.declared.dialect.Dialect.{Dialect}
 use Rattle.lq_base.specs.declared.dialect.Dialect.TheVariants.{Mysql, Postgresql}
 use Rattle.lq_base.specs.declared.literal.Literal.TheVariants as literal
@@ -15,22 +16,15 @@ use Rattle.lq_model.proofs.DefaultNames.{default_named}
 use Rattle.lq_model.proofs.Effects.{does_so, one_back, one_becomes, restores_so, some_same}
 use Rattle.lq_model.proofs.Lists.{all-append, and_left, and_right, and_true, named_itself}
 use Rattle.lq_model.proofs.Told.{if_told, keys_told, kind_told, map_if_told, map_told, maps_told, object_told, text_told, texts_told, truths_told}
-use Rattle.lq_model.specs.Canon.{map_of, text}
-use Rattle.lq_model.specs.Changes.{AreReturns, AreStatements, AreTold, HaveEffect, TakeBack}
-use Rattle.lq_model.specs.DefaultName.{key_name}
+use Rattle.lq_model.specs.Catalogue.{is_empty, key_list}
+use Rattle.lq_model.specs.Changes.{AreReturns, AreStatements, AreTold, HaveEffect, TakeBack, map_of, text}
+use Rattle.lq_model.specs.Comparison.{is_literal}
 use Rattle.lq_model.specs.Effect.{Becomes, GoesBack}
-use Rattle.lq_model.specs.Names.{is_empty}
-use Rattle.lq_model.specs.Sound.{is_key_name, primary}
-use Rattle.lq_model.specs.Spelled.{is_literal}
-use Rattle.lq_model.specs.Statement.{is_column_def, is_foreign, is_key, is_statement, is_unique}
-use Rattle.lq_model.specs.Step.{run}
-use Rattle.lq_model.specs.TableNames.{key_list}
-use Rattle.lq_model.specs.Written.{nth_value, pairs_of}
+use Rattle.lq_model.specs.Sound.{is_key_name, key_name, primary}
+use Rattle.lq_model.specs.Step.{is_column_def, is_foreign, is_key, is_statement, is_unique, run}
+use Rattle.lq_model.specs.TakesBack.{nth_value, pairs_of}
 use Rattle.lq_model.specs.declared.caller.By.TheVariants.{User}
 use Rattle.lq_model.specs.declared.statement.Statement.TheVariants as statement
-use Rattle.lq_tree.specs.Items.{are_some}
-use Rattle.lq_tree.specs.Values.{is_given, literal_of}
-use Rattle.lq_tree.specs.declared.values.GivenValue.{GivenValue}
 use Rattle.lq_tables.specs.Constraints.{foreign_stated, is_reference, unique_stated}
 use Rattle.lq_tables.specs.ConstraintsLaws.{foreign_spelled, reference_told, unique_spelled}
 use Rattle.lq_tables.specs.CreateTable.{becomes, canonical_of, column_rows, constraints_rows, creates, def_of, effect, first_name, foreign_of, gives, inverse, is_constraints, is_created, is_for, is_fresh, is_in_key, key_column_of, key_columns, key_named, key_of, key_with, rows, stated_name, unique_of}
@@ -39,7 +33,9 @@ use Rattle.lq_tables.specs.declared.constraints.Reference.{Reference}
 use Rattle.lq_tables.specs.declared.create_table.CreateTable.{CreateTable}
 use Rattle.lq_tables.specs.declared.create_table.CreatedColumn.{CreatedColumn}
 use Rattle.lq_tables.specs.declared.create_table.CreatedConstraints.{CreatedConstraints}
-use Rattle.lq_base.proofs.BesideLemmas.{is_whole}
+use Rattle.lq_tree.specs.Items.{are_some}
+use Rattle.lq_tree.specs.Values.{is_given, literal_of}
+use Rattle.lq_tree.specs.declared.values.GivenValue.{GivenValue}
 
 -- what is right of constraints
 record AreRight (cs : CreatedConstraints) : Type 0 where

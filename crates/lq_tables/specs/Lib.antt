@@ -1,12 +1,9 @@
 pub mod AddColumn
 pub mod AddColumnLaws
-pub mod Constraints
 pub mod ConstraintsLaws
+pub mod ValueKeysLaws
 pub mod CreateTable
 pub mod CreateTableLaws
 pub mod DropTable
-pub mod DropTableLaws
 pub mod RenameTable
-pub mod RenameTableLaws
-pub mod ValueKeys
-pub mod ValueKeysLaws
+pub mod Constraints

@@ -2,7 +2,7 @@ ghost use Rattle.std.specs.List.{flat_map, list_all};
 ghost use Rattle.std.specs.Option.{option_map};
 ghost use Rattle.std.specs.Prelude.{◌≡◌, ◌++◌, ◌∷◌, [], IfOk, None, OnOk, true};
 ghost use Rattle.lq_model.specs.declared.statement.Statement.TheVariants as statement;
-ghost use Rattle.lq_tree.specs.Found.{Reads};
+ghost use Rattle.lq_tree.specs.Look.{Reads};
 ghost use Rattle.lq_tree.specs.Values.{literal_of};
 ghost use Rattle.lq_tables.specs.AddColumn.{add_column, column_gives, column_inverse, def_of, firms, foreign_of, inverse_all, is_firm, is_for, joins, leaves, parts, refers, sets, unique_of, with_foreign_name};
 

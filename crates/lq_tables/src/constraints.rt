@@ -4,9 +4,9 @@ ghost use Rattle.std.specs.Option.{option_copied, option_map};
 ghost use Rattle.std.specs.Prelude.{◌≡◌, ◌<◌, ◌∷◌, [], IfOk, IfSome, MatchOption, false, length, true};
 ghost use Rattle.std.specs.Str.{is_utf8};
 ghost use Rattle.lq_base.specs.Name.{is_name};
-ghost use Rattle.lq_base.specs.Options.{if_there};
-ghost use Rattle.lq_model.specs.Canon.{text};
-ghost use Rattle.lq_model.specs.Written.{field_value};
+ghost use Rattle.lq_base.specs.Number.{if_there};
+ghost use Rattle.lq_model.specs.Changes.{text};
+ghost use Rattle.lq_model.specs.TakesBack.{field_value};
 ghost use Rattle.lq_tables.specs.Constraints.{closed, foreign_stated, is_target, last_open, name_in, target_at, target_of, unique_stated};
 
 use lq_base::{Duplicate, Items, KindFault, Name, NameFault, NoMemory, Text, both};

@@ -1,7 +1,7 @@
 ghost use Rattle.std.specs.List.{flat_map};
 ghost use Rattle.std.specs.Option.{option_map};
 ghost use Rattle.std.specs.Prelude.{◌≡◌, ◌++◌, IfOk, OnOk, map, true};
-ghost use Rattle.lq_tree.specs.Found.{Reads};
+ghost use Rattle.lq_tree.specs.Look.{Reads};
 ghost use Rattle.lq_tree.specs.Values.{literal_of};
 ghost use Rattle.lq_tables.specs.CreateTable.{create_table, creates, def_of, first_name, foreign_of, is_for, is_in_key, is_loose, key_column_of, key_columns, key_named, key_of, stated_name, unique_of, with_foreign_name};
 

@@ -1,5 +1,5 @@
 ghost use Rattle.std.specs.Prelude.{◌≡◌, IfOk, true};
-ghost use Rattle.lq_tree.specs.Found.{Reads};
+ghost use Rattle.lq_tree.specs.Look.{Reads};
 ghost use Rattle.lq_tables.specs.DropTable.{is_for, drop_table};
 
 use lq_base::{Dialect, Duplicate, Items, KindFault, Name, NoMemory};
@@ -37,8 +37,7 @@ impl DropTable {
 }
 
 impl Change for DropTable {
-    ghost use Rattle.lq_tables.specs.DropTable.{canonical_of, effect, gives, inverse, is_for, is_fresh};
-    ghost use Rattle.lq_tables.specs.DropTableLaws.{does, restores, returned, spelled, told};
+    ghost use Rattle.lq_tables.specs.DropTable.{canonical_of, effect, gives, inverse, is_for, is_fresh, does, restores, returned, spelled, told};
     ghost use Rattle.lq_tables.specs.declared.drop_table.DropTable.{DropTable};
 
     ghost Key = { DropTable };

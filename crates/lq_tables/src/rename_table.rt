@@ -1,5 +1,5 @@
 ghost use Rattle.std.specs.Prelude.{◌≡◌, IfOk, true};
-ghost use Rattle.lq_tree.specs.Found.{Reads};
+ghost use Rattle.lq_tree.specs.Look.{Reads};
 ghost use Rattle.lq_tables.specs.RenameTable.{is_for, rename_table};
 
 use lq_base::{Dialect, Duplicate, Items, KindFault, Name, NoMemory};
@@ -48,8 +48,7 @@ impl RenameTable {
 }
 
 impl Change for RenameTable {
-    ghost use Rattle.lq_tables.specs.RenameTable.{canonical_of, effect, gives, inverse, is_for, is_fresh};
-    ghost use Rattle.lq_tables.specs.RenameTableLaws.{does, restores, returned, spelled, told};
+    ghost use Rattle.lq_tables.specs.RenameTable.{canonical_of, effect, gives, inverse, is_for, is_fresh, does, restores, returned, spelled, told};
     ghost use Rattle.lq_tables.specs.declared.rename_table.RenameTable.{RenameTable};
 
     ghost Key = { RenameTable };

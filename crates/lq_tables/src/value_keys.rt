@@ -1,9 +1,9 @@
 //! The four keys that can state a value, read and written.
 ghost use Rattle.std.specs.Prelude.{◌≡◌, IfOk, true};
-ghost use Rattle.lq_base.specs.Options.{if_there};
-ghost use Rattle.lq_tree.specs.Found.{Reads};
+ghost use Rattle.lq_base.specs.Number.{if_there};
+ghost use Rattle.lq_tree.specs.Look.{Reads};
 ghost use Rattle.lq_tree.specs.Values.{is_given};
-ghost use Rattle.lq_tables.specs.ValueKeys.{default_keys, default_rows, rows_at, set_keys, set_rows};
+ghost use Rattle.lq_tables.specs.Constraints.{default_keys, default_rows, rows_at, set_keys, set_rows};
 
 use lq_base::{KindFault, NoMemory};
 use lq_model::{Canon, Field, Fields, Written};
@@ -51,7 +51,7 @@ pub(crate) struct ValueAt<'a> {
 }
 
 impl Written for ValueAt<'_> {
-    ghost use Rattle.lq_tables.specs.ValueKeys.{rows_at};
+    ghost use Rattle.lq_tables.specs.Constraints.{rows_at};
 
     ghost rows = { rows_at };
 

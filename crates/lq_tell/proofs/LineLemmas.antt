@@ -2,7 +2,7 @@
 use Rattle.std.proofs.Common.{◌≡◌, Option, Some, None, Result, Ok, Err, OnOk, refl, option_copied, Bor}
 use Rattle.lq_base.specs.declared.identity.Identity.{Identity}
 use Rattle.lq_base.specs.declared.run.Why.{Why}
-use Rattle.lq_report.specs.Log.{halted_line, warning_line}
+use Rattle.lq_report.specs.Output.{halted_line, warning_line}
 use Rattle.lq_tell.specs.Lines.{halted_at, warned_at}
 
 pub on_ok : {X E A B : Type 0} (r : Result X E) → OnOk r A → (A → B) → OnOk r B

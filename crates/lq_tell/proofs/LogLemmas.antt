@@ -1,10 +1,9 @@
 -- The log's text, from the texts that were made.
 use Rattle.std.proofs.Common.{◌≡◌, ◌∙◌, ℕ, List, ◌++◌, Bool, true, false, Option, Result, refl, sym, ap}
-use Rattle.lq_report.specs.Log.{fixed_line}
+use Rattle.lq_report.specs.Output.{fixed_line}
 use Rattle.lq_report.specs.declared.fixed.FixedLine.TheVariants as fixed
-use Rattle.lq_tell.specs.Log.{lone_line, log_text, stands_alone}
-use Rattle.lq_tell.specs.Texts.{has_output}
-use Rattle.lq_tell.specs.Told.{HasTexts, IsAlone}
+use Rattle.lq_tell.specs.Lines.{lone_line, log_text, stands_alone}
+use Rattle.lq_tell.specs.Texts.{has_output, HasTexts, IsAlone}
 use Rattle.lq_tell.specs.declared.done.Done.{Done}
 use Rattle.lq_tell.specs.declared.status.Status.{Status}
 use Rattle.lq_tell.specs.declared.status.Status.TheVariants as status

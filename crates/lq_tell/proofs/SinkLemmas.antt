@@ -1,7 +1,7 @@
 -- Two texts written one after the other, and nothing written.
 use Rattle.std.proofs.Common.{◌≡◌, ◌∙◌, ℕ, List, [], ◌++◌, Option, Some, None, option_map, refl, sym, ap, append_assoc}
 use Rattle.std.proofs.lemmas.List.{append-nil}
-use Rattle.lq_outside.specs.Sink.{IsPart}
+use Rattle.lq_outside.specs.Forms.{IsPart}
 
 -- a part of the first is a part of both
 pub part_of_first : (first second : List ℕ) (before after : Option (List ℕ)) → IsPart first before after → IsPart (first ++ second) before after

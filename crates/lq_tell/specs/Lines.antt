@@ -1,17 +1,18 @@
 -- The lines of the log for how a command ended.
-use Rattle.std.specs.Prelude.{List, None, Option, Some, [], codes, ℕ, ◌++◌}
 use Rattle.std.specs.List.{flat_map}
+use Rattle.std.specs.Prelude.{Bool, Err, List, None, Ok, Option, Result, Some, [], codes, false, if◌then◌else◌, true, ℕ, ◌++◌}
+use Rattle.lq_base.specs.Name.{identity_text}
 use Rattle.lq_base.specs.declared.identity.Identity.{Identity}
 use Rattle.lq_base.specs.declared.run.Why.{Why}
-use Rattle.lq_base.specs.Tracking.{identity_text}
 use Rattle.lq_faultlog.specs.Lines.{load_fault_line}
-use Rattle.lq_report.specs.Log.{busy_line, changed_line, damaged_line, fixed_line, full_line, locked_lines, log_line, no_tag_line, not_reversible_line, not_writable_line, refused_line, twice_line}
-use Rattle.lq_words.specs.Words.{why_text}
+use Rattle.lq_report.specs.Output.{busy_line, changed_line, damaged_line, fixed_line, full_line, locked_lines, log_line, no_tag_line, not_reversible_line, not_writable_line, refused_line, twice_line}
 use Rattle.lq_report.specs.declared.fixed.FixedLine.TheVariants as fixed
-use Rattle.lq_turns.specs.declared.fault.Fault.{Fault}
-use Rattle.lq_turns.specs.declared.fault.Fault.TheVariants as fault
+use Rattle.lq_tell.specs.declared.done.Done.{Done}
 use Rattle.lq_tell.specs.declared.status.Status.{Status}
 use Rattle.lq_tell.specs.declared.status.Status.TheVariants as status
+use Rattle.lq_turns.specs.declared.fault.Fault.{Fault}
+use Rattle.lq_turns.specs.declared.fault.Fault.TheVariants as fault
+use Rattle.lq_words.specs.Words.{why_text}
 
 -- where a precondition stands: at a changeset, or at the head of the changelog
 abbrev pub place_name : Option Identity → List ℕ
@@ -66,3 +67,30 @@ warning_line warned = warned_at warned.0 warned.1
 
 abbrev pub warning_lines : Option Why → List (Option Identity × Why) → List ℕ
 warning_lines own warned = own_line own ++ flat_map warning_line warned
+
+-- The log of a command.
+
+-- its line needs no memory, and no warnings stand before it
+abbrev pub stands_alone : Status → Bool
+stands_alone status.Usage = true
+stands_alone status.ReadFault = true
+stands_alone status.DiskFault = true
+stands_alone status.OutOfMemory = true
+stands_alone s = false
+
+-- the line of a status that stands alone
+abbrev pub lone_line : Status → List ℕ
+lone_line status.Usage = fixed_line fixed.Usage
+lone_line status.ReadFault = fixed_line fixed.ReadFault
+lone_line status.DiskFault = fixed_line fixed.DiskFault
+lone_line status.OutOfMemory = fixed_line fixed.OutOfMemory
+lone_line s = []
+
+-- the warnings of what a command did
+abbrev pub warnings_of : Result Done Status → List ℕ
+warnings_of (Ok done) = warning_lines done.own done.warned
+warnings_of (Err s) = []
+
+-- the log of a command that ended with a status: the warnings and then the status's lines
+abbrev pub log_text : Option (List ℕ) → Result Done Status → Status → List ℕ
+log_text tag done s = (if stands_alone s then [] else warnings_of done) ++ status_lines tag s

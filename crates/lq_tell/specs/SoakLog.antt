@@ -1,6 +1,6 @@
 -- The changelog that a soak makes of a number.
 use Rattle.std.specs.Fmt.{decimal}
-use Rattle.std.specs.Prelude.{List, [], codes, if◌then◌else◌, suc, zero, ℕ, ◌%◌, ◌*◌, ◌+◌, ◌++◌, ◌/◌, ◌==◌, ◌^◌}
+use Rattle.std.specs.Prelude.{List, [], codes, if◌then◌else◌, suc, zero, ℕ, ◌%◌, ◌*◌, ◌++◌, ◌+◌, ◌/◌, ◌==◌, ◌^◌}
 
 -- the path of its file
 abbrev pub soak_path : List ℕ

@@ -2,7 +2,7 @@ ghost use Rattle.std.specs.List.{flat_map};
 ghost use Rattle.std.specs.Option.{ForSome, option_copied};
 ghost use Rattle.std.specs.Prelude.{◌≡◌, ◌++◌, IfOk, IsTrue, OnOk};
 ghost use Rattle.lq_base.specs.Moment.{IsMoment};
-ghost use Rattle.lq_report.specs.Log.{fixed_line, locked_lines};
+ghost use Rattle.lq_report.specs.Output.{fixed_line, locked_lines};
 ghost use Rattle.lq_tell.specs.Lines.{fault_line, halted_at, no_target_line, own_line, status_lines, warned_at, warning_line, warning_lines};
 
 use crate::status::Status;

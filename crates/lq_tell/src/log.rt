@@ -1,8 +1,7 @@
 ghost use Rattle.std.specs.Option.{option_map};
 ghost use Rattle.std.specs.Prelude.{◌≡◌, ◌++◌, OnErr, OnOk};
-ghost use Rattle.lq_outside.specs.Count.{Rose};
-ghost use Rattle.lq_outside.specs.Sink.{IsPart};
-ghost use Rattle.lq_tell.specs.Log.{lone_line};
+ghost use Rattle.lq_outside.specs.Forms.{Rose, IsPart};
+ghost use Rattle.lq_tell.specs.Lines.{lone_line};
 
 use crate::status::Status;
 use lq_outside::{Sink, SinkFailed, write_all};

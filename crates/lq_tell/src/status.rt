@@ -58,8 +58,7 @@ pub enum Status {
 
 impl Status {
     ghost use Rattle.std.specs.Prelude.{◌≡◌};
-    ghost use Rattle.lq_tell.specs.Status.{code_of};
-    ghost use Rattle.lq_tell.specs.Texts.{has_output};
+    ghost use Rattle.lq_tell.specs.Texts.{code_of, has_output};
 
     /// Whether a command that ended so has an output.
     pub fn has_output(&self) -> bool

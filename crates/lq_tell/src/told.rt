@@ -1,8 +1,7 @@
 ghost use Rattle.std.specs.Option.{option_copied};
 ghost use Rattle.std.specs.Prelude.{◌≡◌, false, true, Err, IfErr, IfOk, Ok};
-ghost use Rattle.lq_tell.specs.Lines.{status_lines, warning_lines};
-ghost use Rattle.lq_tell.specs.Log.{stands_alone};
-ghost use Rattle.lq_tell.specs.Told.{IsTold};
+ghost use Rattle.lq_tell.specs.Lines.{status_lines, warning_lines, stands_alone};
+ghost use Rattle.lq_tell.specs.Texts.{IsTold};
 
 use crate::done::Done;
 use crate::lines::{status_lines, warning_lines};

@@ -1,12 +1,10 @@
 ghost use Rattle.std.specs.Option.{option_copied, option_map};
 ghost use Rattle.std.specs.Prelude.{◌≡◌, ◌⊎◌, ◌++◌, IsTrue, List, Ok, OnErr, OnOk, Option, Result, false, is_some, true, ℕ};
-ghost use Rattle.lq_outside.specs.Count.{Rose};
-ghost use Rattle.lq_outside.specs.Sink.{IsPart};
-ghost use Rattle.lq_tell.specs.Log.{log_text};
+ghost use Rattle.lq_outside.specs.Forms.{Rose, IsPart};
+ghost use Rattle.lq_tell.specs.Lines.{log_text};
 ghost use Rattle.lq_tell.specs.declared.done.Done.{Done};
 ghost use Rattle.lq_tell.specs.declared.status.Status.{Status};
-ghost use Rattle.lq_tell.specs.Told.{HasTexts};
-ghost use Rattle.lq_tell.specs.Texts.{EndsAs, IsSilent, has_output, out_of, out_text, status_done, text_or_none};
+ghost use Rattle.lq_tell.specs.Texts.{HasTexts, EndsAs, IsSilent, has_output, out_of, out_text, status_done, text_or_none};
 
 use crate::done::Done;
 use crate::log::{log_lines, lone_line};

@@ -12,15 +12,14 @@ use Rattle.lq_commands.specs.Scripts.{script}
 use Rattle.lq_commands.specs.Works.{is_finished}
 use Rattle.lq_commands.specs.declared.given.Given.{Given}
 use Rattle.lq_entries.specs.Log.{entries_in}
-use Rattle.lq_drill.specs.Faults.{answer_of, freed}
-use Rattle.lq_drill.specs.Shows.{HadRoom, room_of_entry as room_in_drill}
+use Rattle.lq_drill.specs.Faults.{answer_of, freed, HadRoom, room_of_entry as room_in_drill}
 use Rattle.lq_kinds.specs.declared.any_change.AnyChange.{AnyChange}
 use Rattle.lq_model.specs.declared.caller.Room.{Room}
 use Rattle.lq_playing.specs.Checked.{Work}
-use Rattle.lq_players.specs.Drilling.{works}
+use Rattle.lq_players.specs.AnyCommand.{works}
 use Rattle.lq_players.specs.Reports.{report_of}
 use Rattle.lq_players.specs.Tasks.{refuses}
-use Rattle.lq_playing.specs.Came.{as_busy, as_locked, came, only}
+use Rattle.lq_playing.specs.Answers.{as_busy, as_locked, came, only}
 use Rattle.lq_playing.specs.declared.came.Came.{Came}
 use Rattle.lq_run.specs.Stands.{HadRoom as HadRoomAlone, entries_of, room_of_entry}
 use Rattle.lq_store.specs.Journal.{Entry, end_of, size_of_all}
@@ -41,7 +40,7 @@ use Rattle.lq_top.proofs.AsRunner.{calls_same, checked_of, last_answer, last_fin
 use Rattle.lq_top.proofs.InPart.{command_on_file, runs_command, same_dialect, says_command}
 use Rattle.lq_top.proofs.OneRunner.{Follows, follows, refused}
 use Rattle.lq_top.proofs.Unchanged.{becomes_same, left_same, no_room}
-use Rattle.lq_top.specs.Alone.{EndsWith, HasAnswered, IsCutShort, TakesSteps, WasCutShort, status_of}
+use Rattle.lq_top.specs.Players.{EndsWith, HasAnswered, IsCutShort, TakesSteps, WasCutShort, status_of}
 use Rattle.lq_top.specs.Asks.{Asks, Files}
 use Rattle.lq_top.specs.Bytes.{Becomes, HadRoomOn, Holds, IsLeftOn, Opens, in_use, most_bytes}
 use Rattle.lq_top.specs.Run.{EndsBy, IsOutside, Runs, RunsJob, given_by, is_end, is_over}

@@ -10,23 +10,21 @@ use Rattle.lq_base.specs.declared.tracking.Tracked.{Tracked}
 use Rattle.lq_cli.specs.declared.line.Job.TheVariants.{Run}
 use Rattle.lq_commands.specs.Refusals.{if_halts, if_not, if_some, invalid, no_way_back, own_halt, refusal, unreachable_by, untagged}
 use Rattle.lq_commands.specs.Scripts.{log_in, nothing_told, rollback_to, rolled_to, script, sets_in}
-use Rattle.lq_commands.specs.Tells.{status_by}
-use Rattle.lq_commands.specs.Works.{is_finished}
+use Rattle.lq_commands.specs.Works.{status_by, is_finished}
 use Rattle.lq_commands.specs.declared.given.Given.{Given}
 use Rattle.lq_kinds.specs.declared.any_change.AnyChange.{AnyChange}
 use Rattle.lq_players.specs.Tasks.{answer_by, if_halts as halts_answer, if_not as not_answer, if_some as some_answer, invalid as invalid_answer, own_halt as own_answer, refuses, stop_back, stop_of, stop_to, task_for, unreachable_by as unreachable_answer, untagged as untagged_answer}
-use Rattle.lq_seen.specs.Printing.{Account, of_turns}
+use Rattle.lq_seen.specs.Telling.{Account, of_turns}
 use Rattle.lq_seen.specs.View.{any_meaning}
 use Rattle.lq_tell.specs.declared.status.Status.{Status}
 use Rattle.lq_tell.specs.declared.status.Status.TheVariants as status
 use Rattle.lq_track.specs.Database.{Database}
-use Rattle.lq_turns.specs.Contents.{contents_of}
+use Rattle.lq_turns.specs.Deed.{contents_of}
 use Rattle.lq_turns.specs.Faults.{faults}
 use Rattle.lq_turns.specs.Jobs.{Task, needs_lock, script_of}
-use Rattle.lq_turns.specs.Laws.{rollback_calls}
-use Rattle.lq_turns.specs.Rollback.{not_reversible, rows_kept, rows_undone, undo_turns}
+use Rattle.lq_turns.specs.Laws.{rollback_calls, synced}
+use Rattle.lq_turns.specs.Script.{not_reversible, rows_kept, rows_undone, undo_turns}
 use Rattle.lq_turns.specs.Settle.{own_choice, updated}
-use Rattle.lq_turns.specs.Synced.{synced}
 use Rattle.lq_turns.specs.declared.answer.Answer.{Answer}
 use Rattle.lq_turns.specs.declared.answer.Answer.TheVariants as answer
 use Rattle.lq_turns.specs.declared.call.Call.{Call}
@@ -36,7 +34,7 @@ use Rattle.lq_turns.specs.declared.fault.Fault.{Fault}
 use Rattle.lq_turns.specs.declared.stop.Stop.{Stop}
 use Rattle.lq_turns.specs.declared.stop.Stop.TheVariants.{Halted, Refused}
 use Rattle.lq_turns.specs.declared.turn.Turn.{Turn}
-use Rattle.lq_top.specs.Alone.{status_of}
+use Rattle.lq_top.specs.Players.{status_of}
 use Rattle.lq_top.specs.Says.{SaysJob}
 
 -- a refusal, as its runner answers it

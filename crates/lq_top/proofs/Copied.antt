@@ -2,19 +2,18 @@
 use Rattle.std.proofs.Common.{ap, refl, subst, sym, ◌∙◌}
 use Rattle.std.specs.Prelude.{Err, IfSome, List, None, Ok, Option, Result, Some, length, true, ℕ, ◌<◌, ◌≡◌}
 use Rattle.lq_base.specs.declared.dialect.Dialect.{Dialect}
-use Rattle.lq_commands.specs.Kinds.{is_of_database}
+use Rattle.lq_commands.specs.Jobs.{is_of_database}
 use Rattle.lq_commands.specs.Refusals.{Answers}
 use Rattle.lq_entries.specs.Load.{catalogue_of, read_entries}
 use Rattle.lq_frames.proofs.Appended.{reads_too_long}
-use Rattle.lq_frames.specs.Journal.{read_frames}
+use Rattle.lq_frames.specs.Body.{read_frames}
 use Rattle.lq_model.specs.Catalogue.{Catalogue}
 use Rattle.lq_tell.specs.declared.done.Done.{Done}
 use Rattle.lq_tell.specs.declared.status.Status.{Status}
 use Rattle.lq_tell.specs.declared.status.Status.TheVariants as status
 use Rattle.lq_track.specs.Database.{Database}
 use Rattle.lq_top.proofs.RefusedKinds.{answers_disk, answers_memory}
-use Rattle.lq_top.specs.Bytes.{Opens, TellsDamage, most_bytes}
-use Rattle.lq_top.specs.Copies.{IsNoCopy, copy_status}
+use Rattle.lq_top.specs.Bytes.{Opens, TellsDamage, most_bytes, IsNoCopy, copy_status}
 use Rattle.lq_top.specs.Kinds.{IsOfDatabase}
 
 ok_no_err : (r : Result Catalogue ℕ) (c : Catalogue) (n : ℕ) → r ≡ Ok c → r ≡ Err n → ⊥

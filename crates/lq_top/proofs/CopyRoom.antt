@@ -11,7 +11,7 @@ use Rattle.lq_entries.specs.Load.{catalogue_of}
 use Rattle.lq_db.specs.declared.db.Db.{Db}
 use Rattle.lq_outside.specs.Crash.{Crashes}
 use Rattle.lq_store.specs.Executor.{Held, kept}
-use Rattle.lq_store.specs.State.{State}
+use Rattle.lq_store.specs.Journal.{State}
 use Rattle.lq_tell.specs.declared.done.Done.{Done}
 use Rattle.lq_tell.specs.declared.status.Status.{Status}
 use Rattle.lq_track.specs.Database.{Database}

@@ -21,8 +21,7 @@ use Rattle.lq_top.proofs.Copied.{long_told}
 use Rattle.lq_top.proofs.InPart.{no_goal}
 use Rattle.lq_top.proofs.Written.{IsWritten, failed_ends}
 use Rattle.lq_top.specs.Asks.{file_status}
-use Rattle.lq_top.specs.Bytes.{IsDamagedAt, load_status, most_bytes}
-use Rattle.lq_top.specs.Copies.{IsNoCopy, copy_status}
+use Rattle.lq_top.specs.Bytes.{IsDamagedAt, load_status, most_bytes, IsNoCopy, copy_status}
 use Rattle.lq_top.specs.Jobs.{goes_on, misses}
 use Rattle.lq_top.specs.Run.{SparesDamage, TellsPlace}
 use Rattle.lq_top.specs.Worked.{FailsAt, Spares}

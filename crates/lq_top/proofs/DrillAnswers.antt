@@ -4,7 +4,7 @@ use Rattle.std.specs.Prelude.{Err, IfErr, List, Ok, Option, Result, Some, ◌≡
 use Rattle.lq_drill.specs.Drill.{Each, HasFailed, HasNotFailed}
 use Rattle.lq_drill.specs.declared.fault.DrillFault.{DrillFault}
 use Rattle.lq_drill.specs.declared.fault.DrillFault.TheVariants as fault
-use Rattle.lq_playing.specs.Came.{as_failed}
+use Rattle.lq_playing.specs.Answers.{as_failed}
 use Rattle.lq_playing.specs.declared.came.Came.{Came}
 use Rattle.lq_players.specs.AnyCommand.{command_stands}
 use Rattle.lq_players.specs.declared.any_command.AnyCommand.{AnyCommand}

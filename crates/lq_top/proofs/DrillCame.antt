@@ -7,9 +7,9 @@ use Rattle.lq_base.specs.declared.dialect.Dialect.{Dialect}
 use Rattle.lq_drill.specs.Faults.{Comes, FallsFirst, Steps}
 use Rattle.lq_kinds.specs.declared.any_change.AnyChange.{AnyChange}
 use Rattle.lq_model.proofs.Lists.{and_left, and_right}
-use Rattle.lq_playing.specs.Came.{as_busy, as_failed, as_locked}
+use Rattle.lq_playing.specs.Answers.{as_busy, as_failed, as_locked}
 use Rattle.lq_playing.specs.declared.came.Came.{Came}
-use Rattle.lq_players.specs.Drilling.{works}
+use Rattle.lq_players.specs.AnyCommand.{works}
 use Rattle.lq_seen.specs.View.{any_meaning}
 use Rattle.lq_turns.specs.Jobs.{Task, needs_lock, script_of}
 use Rattle.lq_turns.specs.Schedule.{has_answered, has_begun}

@@ -5,19 +5,15 @@ use Rattle.std.specs.Prelude.{Bool, Err, IsTrue, List, None, Ok, Option, Result,
 use Rattle.lq_base.specs.declared.dialect.Dialect.{Dialect}
 use Rattle.lq_entries.specs.Log.{crashes_in, entries_in, if_undamaged}
 use Rattle.lq_drill.specs.Drill.{HasFaulted as PlayerFaulted, LeftInDrill}
-use Rattle.lq_drill.specs.Faults.{Comes, FreesEarly}
-use Rattle.lq_drill.specs.Shows.{entries_of}
-use Rattle.lq_frames.specs.Journal.{journal_of}
+use Rattle.lq_drill.specs.Faults.{Comes, FreesEarly, entries_of}
+use Rattle.lq_frames.specs.Body.{journal_of}
 use Rattle.lq_kinds.specs.declared.any_change.AnyChange.{AnyChange}
 use Rattle.lq_outside.specs.Crash.{Crashes as DiskCrashes, IsSound, LeavesOnly}
-use Rattle.lq_playing.specs.Came.{as_busy, as_failed, as_locked}
+use Rattle.lq_playing.specs.Answers.{as_busy, as_failed, as_locked}
 use Rattle.lq_playing.specs.declared.came.Came.{Came}
-use Rattle.lq_players.specs.AnyCommand.{command_stands}
-use Rattle.lq_players.specs.Drilling.{works}
+use Rattle.lq_players.specs.AnyCommand.{command_stands, works}
 use Rattle.lq_players.specs.declared.any_command.AnyCommand.{AnyCommand}
-use Rattle.lq_store.specs.Crashes.{Since}
-use Rattle.lq_store.specs.Journal.{Entry}
-use Rattle.lq_store.specs.State.{State}
+use Rattle.lq_store.specs.Journal.{Since, Entry, State}
 use Rattle.lq_tell.specs.declared.done.Done.{Done}
 use Rattle.lq_tell.specs.declared.status.Status.{Status}
 use Rattle.lq_tell.specs.declared.status.Status.TheVariants as status

@@ -10,44 +10,39 @@ use Rattle.lq_base.specs.declared.command.Command.{Command}
 use Rattle.lq_base.specs.declared.dialect.Dialect.{Dialect}
 use Rattle.lq_cli.specs.declared.line.Job.TheVariants as job
 use Rattle.lq_commands.proofs.BareName.{clean_no_bar}
-use Rattle.lq_commands.specs.Who.{clean}
+use Rattle.lq_commands.specs.Stamp.{clean}
 use Rattle.lq_db.specs.Db.{IsDb, IsNew, IsValid, crashes as crashes_of, disk_in, state}
 use Rattle.lq_db.specs.Load.{IsDbFault}
 use Rattle.lq_entries.specs.Load.{catalogue_of}
 use Rattle.lq_entries.specs.Log.{crashes_in, entries_in}
 use Rattle.lq_db.specs.declared.db.Db.{Db}
 use Rattle.lq_drill.specs.Drill.{Each, FailsBy, HasFaulted as PlayerFaulted, IsDrilled, IsDrilledUntil, IsFaultless as HasNoFault, IsSerialDrill, LeftAtEnd, LeftInDrill, MetAt, RestsIn, shut}
-use Rattle.lq_drill.specs.Faults.{FallsFirst, IsLetGo, Meets, Steps}
+use Rattle.lq_drill.specs.Faults.{FallsFirst, IsLetGo, Meets, Steps, HadRoom, Shows, entries_of}
 use Rattle.lq_drill.specs.Player.{MayAnswer, answer_of}
-use Rattle.lq_drill.specs.Shows.{HadRoom, Shows, entries_of}
 use Rattle.lq_drill.specs.declared.fault.DrillFault.TheVariants as fault
 use Rattle.lq_drill.specs.declared.fault.DrillFault.{DrillFault}
 use Rattle.lq_journal.specs.State.{dialect_of, limit_of}
 use Rattle.lq_journal.specs.declared.fault.LoadFault.{LoadFault}
 use Rattle.lq_journal.specs.declared.fault.LoadFault.TheVariants as load
 use Rattle.lq_kinds.specs.declared.any_change.AnyChange.{AnyChange}
-use Rattle.lq_outside.specs.Count.{Rose}
+use Rattle.lq_outside.specs.Forms.{Rose}
 use Rattle.lq_outside.specs.Crash.{Crashes as DiskCrashes, IsSound, LeavesOnly}
-use Rattle.lq_playing.specs.Came.{as_busy, as_failed, as_locked}
+use Rattle.lq_playing.specs.Answers.{as_busy, as_failed, as_locked}
 use Rattle.lq_playing.specs.declared.came.Came.{Came}
-use Rattle.lq_players.specs.AnyCommand.{command_stands}
-use Rattle.lq_players.specs.Drilling.{BeginInTurn, HaveTasks, works}
+use Rattle.lq_players.specs.AnyCommand.{command_stands, BeginInTurn, HaveTasks, works}
 use Rattle.lq_players.specs.declared.any_command.AnyCommand.{AnyCommand}
 use Rattle.lq_report.specs.Output.{drill_text}
 use Rattle.lq_run.specs.Commands.{HasDatabase}
 use Rattle.lq_stand.proofs.StaysClean.{IsGood, clean_of}
 use Rattle.lq_statement.specs.Laws.{StatementsReadBack}
-use Rattle.lq_store.specs.Crashes.{CrashesLeave, Since}
+use Rattle.lq_store.specs.Journal.{CrashesLeave, Since, Entry, database as catalogue_by, State}
 use Rattle.lq_store.specs.Executor.{Held, kept}
-use Rattle.lq_store.specs.Journal.{Entry, database as catalogue_by}
-use Rattle.lq_store.specs.State.{State}
 use Rattle.lq_tell.specs.declared.done.Done.{Done}
 use Rattle.lq_tell.specs.declared.status.Status.{Status}
 use Rattle.lq_tell.specs.declared.status.Status.TheVariants as status
 use Rattle.lq_track.specs.Database.{Database}
-use Rattle.lq_turns.specs.Held.{StandsFor}
+use Rattle.lq_turns.specs.Schedule.{StandsFor, has_begun, start}
 use Rattle.lq_turns.specs.Jobs.{Task}
-use Rattle.lq_turns.specs.Schedule.{has_begun, start}
 use Rattle.lq_turns.specs.Script.{closing}
 use Rattle.lq_top.proofs.DamagedFiles.{load_spares, memory_spares, no_damage, spares_after}
 use Rattle.lq_top.proofs.DrillAnswers.{disk_failed, none_failed}
@@ -63,9 +58,8 @@ use Rattle.lq_top.proofs.OnFiles.{entries_told, entries_were, fault_tells, journ
 use Rattle.lq_top.proofs.OpensAgain.{holds_opens, was_clean}
 use Rattle.lq_top.proofs.Ready.{opened}
 use Rattle.lq_top.specs.Bytes.{Holds, Opens, TellsDamage, load_status, most_bytes}
-use Rattle.lq_top.specs.Clock.{ReadInTurn, ReadUpTo}
+use Rattle.lq_top.specs.Kinds.{ReadInTurn, ReadUpTo, Refuses, is_of_drill}
 use Rattle.lq_top.specs.Drilled.{AnswerAs, AnswerBefore, AreTasks, Commands, CrashesTo, DoesDrill, Drills, EndsFull, GoesAs, GoesUntil, HasFaulted, HoldsMachine, IsDrill, IsEnding, IsFaultless, IsFull, IsLeftInDrill, IsOfDrill, IsSerial, IsSettled, MetFull, RestsAt, RestsFull, RestsOn, Went, WorkedDrill, drilled, machine_after}
-use Rattle.lq_top.specs.Kinds.{Refuses, is_of_drill}
 use Rattle.lq_top.specs.Players.{ArePlayers, PlayAnswers, PlayEnds, PlayIsFull, Plays, answers_in, faults_in, is_of_play}
 use Rattle.lq_top.specs.declared.drilling.Drilling.{Drilling}
 

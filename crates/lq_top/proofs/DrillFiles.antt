@@ -6,8 +6,7 @@ use Rattle.std.specs.List.{All, remove}
 use Rattle.std.specs.Prelude.{Err, List, Ok, Option, Result, Some, [], length, slice_get, suc, ◌++◌, ◌∷◌, ◌≡◌}
 use Rattle.lq_base.specs.declared.dialect.Dialect.{Dialect}
 use Rattle.lq_cli.specs.declared.line.Line.{Line}
-use Rattle.lq_sources.specs.Answers.{Finds, IsFree, IsTold, Source, map_ok}
-use Rattle.lq_sources.specs.Faults.{Loaded, ◌>>=◌}
+use Rattle.lq_sources.specs.Faults.{Finds, IsFree, IsTold, Source, map_ok, Loaded, ◌>>=◌}
 use Rattle.lq_sources.specs.declared.fault.LoadFault.{LoadFault}
 use Rattle.lq_sources.specs.declared.fault.LoadFault.TheVariants as load
 use Rattle.lq_tell.specs.declared.status.Status.{Status}

@@ -16,14 +16,12 @@ use Rattle.lq_drill.specs.declared.fault.DrillFault.{DrillFault}
 use Rattle.lq_model.proofs.Lists.{and_left, and_right, and_true}
 use Rattle.lq_model.specs.Catalogue.{Catalogue}
 use Rattle.lq_stand.proofs.StaysClean.{IsGood, calls_stay_clean, fine_of}
-use Rattle.lq_stand.specs.First.{call_is_first, calls_are_first}
-use Rattle.lq_stand.specs.Stays.{IsClean}
+use Rattle.lq_stand.specs.Stays.{call_is_first, calls_are_first, IsClean}
 use Rattle.lq_track.specs.Database.{Database}
 use Rattle.lq_turns.proofs.Journal.{calls_lead}
 use Rattle.lq_turns.proofs.Made.{calls_both}
 use Rattle.lq_turns.specs.Deed.{all_done}
-use Rattle.lq_turns.specs.Held.{StandsFor}
-use Rattle.lq_turns.specs.Schedule.{Holder, Job, Machine, all_moved, answers_with, appended, begins, first_step, has_answered, has_begun, later_step, makes, moved, start}
+use Rattle.lq_turns.specs.Schedule.{StandsFor, Holder, Job, Machine, all_moved, answers_with, appended, begins, first_step, has_answered, has_begun, later_step, makes, moved, start}
 use Rattle.lq_turns.specs.Script.{closing, release_calls}
 use Rattle.lq_turns.specs.Session.{Session, aborted, all_called, called, session_on}
 use Rattle.lq_turns.specs.Stops.{Journal}

@@ -7,7 +7,7 @@ use Rattle.lq_tell.specs.declared.done.Done.{Done}
 use Rattle.lq_tell.specs.declared.status.Status.{Status}
 use Rattle.lq_tell.specs.declared.status.Status.TheVariants as status
 use Rattle.lq_top.proofs.Readings.{unread}
-use Rattle.lq_top.specs.Clock.{ReadUpTo}
+use Rattle.lq_top.specs.Kinds.{ReadUpTo}
 use Rattle.lq_top.specs.Drilled.{CrashesTo, DoesDrill, Drills, IsIdle, IsOfDrill}
 use Rattle.lq_top.specs.declared.drilling.Drilling.{Drilling}
 

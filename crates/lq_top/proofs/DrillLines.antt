@@ -7,8 +7,7 @@ use Rattle.lq_cli.specs.declared.line.Line.{Line}
 use Rattle.lq_expr.specs.declared.options.Options.{Options}
 use Rattle.lq_kinds.specs.declared.change_set.Changelog.{Changelog}
 use Rattle.lq_outside.specs.Crash.{Crashes as DiskCrashes}
-use Rattle.lq_sources.specs.Answers.{Source, map_ok}
-use Rattle.lq_sources.specs.Faults.{Loaded}
+use Rattle.lq_sources.specs.Faults.{Source, map_ok, Loaded}
 use Rattle.lq_sources.specs.declared.fault.LoadFault.{LoadFault}
 use Rattle.lq_tell.specs.declared.done.Done.{Done}
 use Rattle.lq_tell.specs.declared.status.Status.{Status}

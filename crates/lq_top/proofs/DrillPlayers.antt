@@ -18,15 +18,14 @@ use Rattle.lq_base.specs.declared.tracking.Lock.{Lock}
 use Rattle.lq_commands.specs.Stamp.{numbered}
 use Rattle.lq_kinds.specs.declared.any_change.AnyChange.{AnyChange}
 use Rattle.lq_model.proofs.Lists.{and_right, any_none}
-use Rattle.lq_players.specs.AnyCommand.{IsUnstarted, Starts, command_stands}
-use Rattle.lq_players.specs.Drilling.{HasTask, HaveTasks}
+use Rattle.lq_players.specs.AnyCommand.{IsUnstarted, Starts, command_stands, HasTask, HaveTasks}
 use Rattle.lq_players.specs.Tasks.{work_of}
 use Rattle.lq_players.specs.declared.any_command.AnyCommand.{AnyCommand}
-use Rattle.lq_outside.specs.Answers.{after_first}
-use Rattle.lq_run.specs.Holds.{IsHeld}
+use Rattle.lq_outside.specs.Forms.{after_first}
+use Rattle.lq_run.specs.Stands.{IsHeld}
 use Rattle.lq_turns.specs.Jobs.{Task}
 use Rattle.lq_top.proofs.Readings.{no_readings, read_more}
-use Rattle.lq_top.specs.Clock.{ReadInTurn, ReadUpTo}
+use Rattle.lq_top.specs.Kinds.{ReadInTurn, ReadUpTo}
 use Rattle.lq_top.specs.Drilled.{commands_of}
 use Rattle.lq_top.specs.Players.{ArePlayers, task_by}
 use Rattle.lq_top.specs.declared.drilling.Entrant.{Entrant}

@@ -4,8 +4,7 @@ use Rattle.std.specs.Prelude.{Err, List, None, Ok, Option, Result, Some, [], fal
 use Rattle.lq_base.specs.declared.dialect.Dialect.{Dialect}
 use Rattle.lq_cli.specs.declared.line.Job.TheVariants.{Drill}
 use Rattle.lq_outside.specs.Crash.{Crashes as DiskCrashes}
-use Rattle.lq_sources.specs.Answers.{IsTold, Source}
-use Rattle.lq_sources.specs.Faults.{Loaded}
+use Rattle.lq_sources.specs.Faults.{IsTold, Source, Loaded}
 use Rattle.lq_sources.specs.declared.fault.LoadFault.{LoadFault}
 use Rattle.lq_tell.specs.declared.done.Done.{Done}
 use Rattle.lq_tell.specs.declared.status.Status.{Status}

@@ -3,7 +3,7 @@ use Rattle.std.proofs.Common.{ap, inl, inr, subst, sym, ◌∙◌}
 use Rattle.std.specs.Option.{option_map}
 use Rattle.std.specs.Prelude.{Err, List, Ok, Option, Result, Some, false, true, ℕ, ◌++◌, ◌≡◌, ◌⊎◌}
 use Rattle.lq_base.specs.declared.dialect.Dialect.{Dialect}
-use Rattle.lq_outside.specs.Sink.{IsPart}
+use Rattle.lq_outside.specs.Forms.{IsPart}
 use Rattle.lq_outside.specs.Crash.{Crashes as DiskCrashes, Settled}
 use Rattle.lq_tell.specs.Texts.{EndsAs, has_output, out_text, text_or_none}
 use Rattle.lq_tell.specs.declared.done.Done.{Done}

@@ -6,18 +6,17 @@ use Rattle.std.specs.List.{All}
 use Rattle.std.specs.Prelude.{List, None, Option, Some, [], length, slice_get, suc, zero, ℕ, ◌∷◌, ◌≡◌, ◌≤◌}
 use Rattle.lq_back.specs.Laws.{TurnsBackAreSpelled}
 use Rattle.lq_base.specs.declared.dialect.Dialect.{Dialect}
-use Rattle.lq_commands.specs.Stamp.{numbered_stamp}
-use Rattle.lq_commands.specs.Who.{clean}
-use Rattle.lq_kinds.specs.Dialects.{AreFor}
+use Rattle.lq_commands.specs.Stamp.{numbered_stamp, clean}
+use Rattle.lq_kinds.specs.AnyChange.{AreFor}
 use Rattle.lq_kinds.specs.declared.any_change.AnyChange.{AnyChange}
 use Rattle.lq_model.specs.Catalogue.{Catalogue}
-use Rattle.lq_playing.specs.Came.{as_busy, as_failed, as_locked}
+use Rattle.lq_playing.specs.Answers.{as_busy, as_failed, as_locked}
 use Rattle.lq_playing.specs.declared.came.Came.{Came}
-use Rattle.lq_players.specs.Drilling.{works}
+use Rattle.lq_players.specs.AnyCommand.{works}
 use Rattle.lq_seen.specs.View.{any_meaning}
 use Rattle.lq_stand.proofs.StaysClean.{IsGood}
 use Rattle.lq_track.specs.Database.{Database}
-use Rattle.lq_turns.specs.Held.{StandsFor}
+use Rattle.lq_turns.specs.Schedule.{StandsFor}
 use Rattle.lq_turns.specs.Jobs.{Task, script_of}
 use Rattle.lq_turns.specs.Session.{session_on}
 use Rattle.lq_top.proofs.DrillFits.{AreFit, KeepFit}

@@ -4,18 +4,17 @@ use Rattle.std.specs.List.{position}
 use Rattle.std.specs.Option.{option_map}
 use Rattle.std.specs.Prelude.{Err, IfOk, IfSome, List, None, Ok, Option, Some, suc, ℕ, ◌≡◌}
 use Rattle.lq_base.specs.declared.dialect.Dialect.{Dialect}
-use Rattle.lq_changelog.specs.Changelog.{changelog}
+use Rattle.lq_changelog.specs.Gathers.{changelog}
 use Rattle.lq_changelog.specs.Laws.{WhatIsGivenIsForTheDialect}
 use Rattle.lq_cli.specs.declared.line.Job.{Job}
 use Rattle.lq_cli.specs.declared.line.Job.TheVariants.{ClearSums, Drill, Generate, History, RollbackSql, Run, Snapshot, Soak, UndoUnrecorded, UpdateCount, UpdateSql, UpdateTestingRollback, UpdateTo}
 use Rattle.lq_cli.specs.declared.line.Line.{Line}
-use Rattle.lq_commands.specs.Parts.{part_for}
-use Rattle.lq_kinds.specs.Dialects.{AreFor, is_read_for}
+use Rattle.lq_commands.specs.Rehearsal.{part_for}
+use Rattle.lq_kinds.specs.AnyChange.{AreFor, is_read_for}
 use Rattle.lq_kinds.specs.declared.change_set.Changelog.{Changelog}
 use Rattle.lq_portion.proofs.Parts.{all_first}
 use Rattle.lq_portion.specs.Portion.{sets_tag, through}
-use Rattle.lq_sources.specs.Answers.{Source, map_ok}
-use Rattle.lq_sources.specs.Faults.{Loaded}
+use Rattle.lq_sources.specs.Faults.{Source, map_ok, Loaded}
 use Rattle.lq_top.specs.Asks.{Asks, Files, given_for, given_to, loaded, no_changelog}
 use Rattle.lq_top.specs.Drills.{drill_of}
 

@@ -20,29 +20,27 @@ use Rattle.lq_db.specs.Db.{crashes as crashes_of, disk_in}
 use Rattle.lq_db.specs.declared.db.Db.{Db}
 use Rattle.lq_engine.specs.State.{State}
 use Rattle.lq_entries.specs.Load.{is_clean, is_clean_database}
-use Rattle.lq_generate.specs.Faults.{Place, fault_at, first_fault, place_text, size_fault}
+use Rattle.lq_generate.specs.Faults.{Place, fault_at, first_fault, place_text, size_fault, Generates, IsReadBack}
 use Rattle.lq_generate.specs.Generated.{generated_text}
-use Rattle.lq_generate.specs.Outcome.{Generates, IsReadBack}
 use Rattle.lq_generate.specs.declared.generating.GenerateFault.{GenerateFault}
 use Rattle.lq_generate.specs.declared.generating.GenerateFault.TheVariants as generating
-use Rattle.lq_kinds.specs.Label.{is_label}
+use Rattle.lq_kinds.specs.ChangeSets.{is_label}
 use Rattle.lq_model.proofs.Lists.{and_right}
 use Rattle.lq_model.specs.Catalogue.{Catalogue, Table, without_table}
 use Rattle.lq_named.specs.Named.{HasNames, TableHasNames}
 use Rattle.lq_outside.specs.Crash.{Crashes as DiskCrashes}
 use Rattle.lq_run.specs.Commands.{HasDatabase}
-use Rattle.lq_store.specs.Apart.{is_apart}
-use Rattle.lq_store.specs.State.{State as StoreState, seen, seen_in}
+use Rattle.lq_store.specs.Journal.{is_apart, State as StoreState, seen, seen_in}
 use Rattle.lq_tell.specs.declared.done.Done.{Done}
 use Rattle.lq_tell.specs.declared.status.Status.{Status}
 use Rattle.lq_tell.specs.declared.status.Status.TheVariants as status
 use Rattle.lq_track.specs.Database.{Database, database_of, has_twin_rows, users_of}
 use Rattle.lq_track.specs.Lock.{lock_table}
 use Rattle.lq_track.specs.Log.{log_table}
-use Rattle.lq_turns.specs.Held.{StandsFor}
+use Rattle.lq_turns.specs.Schedule.{StandsFor}
 use Rattle.lq_top.proofs.OnDatabases.{worked}
 use Rattle.lq_top.proofs.SoakTables.{users_are}
-use Rattle.lq_top.specs.Generates.{IsLoadedFrom, IsWellWritten, held_in, state_in}
+use Rattle.lq_top.specs.Bytes.{IsLoadedFrom, IsWellWritten, held_in, state_in}
 use Rattle.lq_top.specs.Worked.{WorkedOn}
 
 pub memory_told : (o : Option (List ℕ)) → Answers (option_map status.NotWritable o) (Err status.OutOfMemory)

@@ -11,13 +11,13 @@ use Rattle.lq_base.specs.declared.tracking.Tracked.{Tracked}
 use Rattle.lq_cli.specs.declared.line.Job.{Job}
 use Rattle.lq_cli.specs.declared.line.Job.TheVariants.{Drill, History, RollbackSql, Run, Soak, UpdateCount, UpdateSql, UpdateTestingRollback, UpdateTo, Generate, ClearSums, UndoUnrecorded, Snapshot}
 use Rattle.lq_commands.proofs.PlainRefusals.{IsPlain, refusal_plain, rehearsal_plain, held_plain}
-use Rattle.lq_commands.specs.Parts.{counted_in, part_for}
+use Rattle.lq_commands.specs.Rehearsal.{counted_in, part_for}
 use Rattle.lq_commands.specs.Refusals.{Answers, IsFault, held, if_halts, if_some, invalid, own_halt, unready}
 use Rattle.lq_commands.specs.Scripts.{log_in, sets_in}
 use Rattle.lq_commands.specs.declared.given.Given.{Given}
-use Rattle.lq_changelog.specs.ShortTexts.{HasShortTexts}
+use Rattle.lq_changelog.specs.Gathers.{HasShortTexts}
 use Rattle.lq_generate.specs.Faults.{fault_at}
-use Rattle.lq_kinds.specs.Dialects.{AreFor, is_read_for}
+use Rattle.lq_kinds.specs.AnyChange.{AreFor, is_read_for}
 use Rattle.lq_kinds.specs.declared.change_set.Changelog.{Changelog}
 use Rattle.lq_model.proofs.Lists.{and_left}
 use Rattle.lq_portion.proofs.Parts.{all_first}
@@ -26,7 +26,7 @@ use Rattle.lq_tell.specs.declared.done.Done.{Done}
 use Rattle.lq_tell.specs.declared.status.Status.{Status}
 use Rattle.lq_tell.specs.declared.status.Status.TheVariants as status
 use Rattle.lq_track.specs.Database.{Database}
-use Rattle.lq_turns.specs.Contents.{contents_of}
+use Rattle.lq_turns.specs.Deed.{contents_of}
 use Rattle.lq_turns.specs.Faults.{faults}
 use Rattle.lq_turns.specs.Settle.{own_choice}
 use Rattle.lq_turns.specs.declared.choice.Choice.{Choice}

@@ -10,9 +10,7 @@ use Rattle.lq_entries.specs.Log.{entries_in, if_undamaged, unplaced}
 use Rattle.lq_db.specs.declared.db.Db.{Db}
 use Rattle.lq_frames.proofs.Appended.{journal_is}
 use Rattle.lq_journal.proofs.Entries.{short, used_is}
-use Rattle.lq_frames.specs.Body.{size_of}
-use Rattle.lq_frames.specs.Journal.{journal_of, placed, used_by}
-use Rattle.lq_frames.specs.State.{Stands}
+use Rattle.lq_frames.specs.Body.{size_of, journal_of, placed, used_by, Stands}
 use Rattle.lq_journal.specs.State.{dialect_of, is_prepared, limit_of, used_of}
 use Rattle.lq_frames.specs.declared.entry.Entry.{Entry as Placed}
 use Rattle.lq_outside.specs.Crash.{Crashes}

@@ -7,7 +7,7 @@ use Rattle.lq_commands.proofs.Planned.{kept}
 use Rattle.lq_commands.proofs.ViewsRead.{views_are_read}
 use Rattle.lq_commands.specs.Scripts.{log_in, rollback_script, rollback_to, sets_in, sync_script, update_script}
 use Rattle.lq_commands.specs.declared.given.Given.{Given}
-use Rattle.lq_kinds.specs.Dialects.{AreFor}
+use Rattle.lq_kinds.specs.AnyChange.{AreFor}
 use Rattle.lq_kinds.specs.declared.any_change.AnyChange.{AnyChange}
 use Rattle.lq_model.specs.Sound.{IsSound}
 use Rattle.lq_seen.specs.View.{any_meaning}
@@ -15,13 +15,12 @@ use Rattle.lq_track.specs.Database.{Database}
 use Rattle.lq_turns.proofs.Synced.{sync_rests}
 use Rattle.lq_turns.proofs.Undone.{rollback_rests}
 use Rattle.lq_turns.proofs.Updates.{update_rests}
-use Rattle.lq_turns.specs.Contents.{Contents, contents_of}
-use Rattle.lq_turns.specs.Laws.{AreKnown, IsAtRest}
+use Rattle.lq_turns.specs.Deed.{Contents, contents_of}
+use Rattle.lq_turns.specs.Laws.{AreKnown, IsAtRest, synced}
 use Rattle.lq_turns.specs.Ran.{RanSince, Run, are_reversible}
-use Rattle.lq_turns.specs.Rollback.{rows_kept}
+use Rattle.lq_turns.specs.Script.{rows_kept}
 use Rattle.lq_turns.specs.Session.{left_by}
 use Rattle.lq_turns.specs.Settle.{updated}
-use Rattle.lq_turns.specs.Synced.{synced}
 use Rattle.lq_top.specs.Bytes.{Becomes}
 use Rattle.lq_top.specs.Headline.{HoldsAtRest}
 

@@ -4,14 +4,14 @@ use Rattle.std.specs.Option.{option_map}
 use Rattle.std.specs.Prelude.{IsTrue, List, Option, Some, ℕ, ◌++◌, ◌≡◌, ◌≤◌}
 use Rattle.lq_base.specs.declared.dialect.Dialect.{Dialect}
 use Rattle.lq_entries.specs.Log.{crashes_in, entries_in, if_undamaged}
-use Rattle.lq_frames.specs.Journal.{journal_of}
+use Rattle.lq_frames.specs.Body.{journal_of}
 use Rattle.lq_model.specs.Catalogue.{Catalogue}
 use Rattle.lq_outside.specs.Crash.{Crashes as DiskCrashes, IsSound, LeavesOnly}
 use Rattle.lq_run.specs.Crashes.{LeftInCommand, Since}
 use Rattle.lq_run.specs.Stands.{entries_of}
 use Rattle.lq_store.specs.Journal.{Entry, database as catalogue_by}
 use Rattle.lq_track.specs.Database.{Database}
-use Rattle.lq_turns.specs.Held.{StandsFor}
+use Rattle.lq_turns.specs.Schedule.{StandsFor}
 use Rattle.lq_turns.specs.declared.call.Call.{Call}
 use Rattle.lq_top.specs.Bytes.{CrashLeaves, CrashesOn, IsLeftOn, most_bytes}
 use Rattle.lq_top.specs.Worked.{CrashesSince, LeavesSince}

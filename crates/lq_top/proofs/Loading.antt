@@ -5,13 +5,12 @@ use Rattle.lq_base.specs.declared.dialect.Dialect.{Dialect}
 use Rattle.lq_cli.specs.Line.{line_of}
 use Rattle.lq_cli.specs.declared.line.Job.{Job}
 use Rattle.lq_cli.specs.declared.line.Line.{Line}
-use Rattle.lq_commands.specs.Kinds.{is_diskless, is_of_database}
-use Rattle.lq_commands.specs.Parts.{part_for}
+use Rattle.lq_commands.specs.Jobs.{is_diskless, is_of_database}
+use Rattle.lq_commands.specs.Rehearsal.{part_for}
 use Rattle.lq_commands.specs.declared.given.Given.{Given}
 use Rattle.lq_expr.specs.declared.options.Options.{Options}
 use Rattle.lq_kinds.specs.declared.change_set.Changelog.{Changelog}
-use Rattle.lq_sources.specs.Answers.{Finds, IsTold, Source}
-use Rattle.lq_sources.specs.Faults.{Loaded}
+use Rattle.lq_sources.specs.Faults.{Finds, IsTold, Source, Loaded}
 use Rattle.lq_sources.specs.declared.fault.LoadFault.{LoadFault}
 use Rattle.lq_sources.specs.declared.fault.LoadFault.TheVariants as load
 use Rattle.lq_tell.specs.declared.done.Done.{Done}

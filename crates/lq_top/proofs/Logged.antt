@@ -12,27 +12,22 @@ use Rattle.lq_cli.specs.Job.{goal_of}
 use Rattle.lq_cli.specs.declared.line.Job.{Job}
 use Rattle.lq_cli.specs.declared.line.Job.TheVariants.{Drill, History, RollbackSql, Run, Soak, UpdateCount, UpdateSql, UpdateTestingRollback, UpdateTo, Generate, ClearSums, UndoUnrecorded, Snapshot}
 use Rattle.lq_commands.proofs.Warned.{back_quiet}
-use Rattle.lq_commands.specs.Generates.{generate_text}
-use Rattle.lq_commands.specs.Inserts.{TellsSync, synced_in}
+use Rattle.lq_commands.specs.Rehearsal.{generate_text, counted_in, after_update, told_unless, updates}
+use Rattle.lq_commands.specs.Works.{TellsSync, synced_in, TellsRollback, TellsUpdate, WarnsUpTo, is_finished}
 use Rattle.lq_commands.specs.Outputs.{TellsJob, TellsText, at_once_text, back_in, released_text}
-use Rattle.lq_commands.specs.Parts.{counted_in}
 use Rattle.lq_commands.specs.Refusals.{if_halts, invalid, own_halt, unready}
-use Rattle.lq_commands.specs.Rehearsal.{after_update, told_unless, updates}
 use Rattle.lq_commands.specs.Scripts.{log_in, sets_in, update_script, updated_in}
-use Rattle.lq_commands.specs.Tells.{TellsRollback, TellsUpdate, WarnsUpTo}
-use Rattle.lq_commands.specs.Works.{is_finished}
 use Rattle.lq_commands.specs.declared.given.Given.{Given}
-use Rattle.lq_outside.specs.Sink.{IsPart}
+use Rattle.lq_outside.specs.Forms.{IsPart}
 use Rattle.lq_report.specs.Output.{cleared_text, history_text, tagged_text, validated_text}
 use Rattle.lq_seen.specs.View.{any_meaning}
-use Rattle.lq_tell.specs.Lines.{status_lines, warning_line, warning_lines}
-use Rattle.lq_tell.specs.Log.{log_text, stands_alone, warnings_of}
+use Rattle.lq_tell.specs.Lines.{status_lines, warning_line, warning_lines, log_text, stands_alone, warnings_of}
 use Rattle.lq_tell.specs.Texts.{status_done}
 use Rattle.lq_tell.specs.declared.done.Done.{Done}
 use Rattle.lq_tell.specs.declared.status.Status.{Status}
 use Rattle.lq_tell.specs.declared.status.Status.TheVariants as status
 use Rattle.lq_track.specs.Database.{Database}
-use Rattle.lq_turns.specs.Contents.{Contents, contents_of}
+use Rattle.lq_turns.specs.Deed.{Contents, contents_of}
 use Rattle.lq_turns.specs.Session.{left_by}
 use Rattle.lq_turns.specs.Settle.{Settled, all_settled, by_own, own_choice}
 use Rattle.lq_turns.specs.declared.choice.Choice.{Choice}

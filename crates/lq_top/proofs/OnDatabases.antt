@@ -13,10 +13,10 @@ use Rattle.lq_entries.specs.Load.{catalogue_of}
 use Rattle.lq_db.specs.declared.db.Db.{Db}
 use Rattle.lq_journal.specs.declared.fault.LoadFault.{LoadFault}
 use Rattle.lq_journal.specs.declared.fault.LoadFault.TheVariants as load
-use Rattle.lq_outside.specs.Count.{Rose}
+use Rattle.lq_outside.specs.Forms.{Rose}
 use Rattle.lq_outside.specs.Crash.{Crashes as DiskCrashes, IsSound, LeavesOnly, Settled}
 use Rattle.lq_store.specs.Executor.{Held, kept}
-use Rattle.lq_store.specs.State.{State}
+use Rattle.lq_store.specs.Journal.{State}
 use Rattle.lq_tell.specs.declared.done.Done.{Done}
 use Rattle.lq_tell.specs.declared.status.Status.{Status}
 use Rattle.lq_tell.specs.declared.status.Status.TheVariants as status

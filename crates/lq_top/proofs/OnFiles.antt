@@ -13,21 +13,20 @@ use Rattle.lq_db.specs.Load.{IsDbFault}
 use Rattle.lq_entries.specs.Load.{catalogue_of}
 use Rattle.lq_entries.specs.Log.{crashes_in, entries_in, if_undamaged, unplaced}
 use Rattle.lq_db.specs.declared.db.Db.{Db}
-use Rattle.lq_frames.specs.Journal.{journal_of}
+use Rattle.lq_frames.specs.Body.{journal_of}
 use Rattle.lq_journal.specs.State.{dialect_of, limit_of, used_of}
 use Rattle.lq_frames.specs.declared.entry.Entry.{Entry as Placed}
 use Rattle.lq_journal.specs.declared.fault.LoadFault.{LoadFault}
 use Rattle.lq_journal.specs.declared.fault.LoadFault.TheVariants as load
 use Rattle.lq_model.specs.Catalogue.{Catalogue}
-use Rattle.lq_outside.specs.Count.{Rose}
+use Rattle.lq_outside.specs.Forms.{Rose}
 use Rattle.lq_outside.specs.Crash.{Crashes, Settled}
 use Rattle.lq_run.specs.Commands.{HasDatabase, Leaves}
 use Rattle.lq_run.specs.Crashes.{CrashesLeave, LeftBehind, LeftInCommand, Since}
 use Rattle.lq_run.specs.Left.{IsAtMostFreed, IsFullIn, LeavesLock, RestsIn, StopsIn}
 use Rattle.lq_run.specs.Stands.{HadRoom, entries_of}
 use Rattle.lq_store.specs.Executor.{Held, kept}
-use Rattle.lq_store.specs.Journal.{Entry, database as catalogue_by, end_of, is_full, size_of_all}
-use Rattle.lq_store.specs.State.{State}
+use Rattle.lq_store.specs.Journal.{Entry, database as catalogue_by, end_of, is_full, size_of_all, State}
 use Rattle.lq_tell.specs.Texts.{status_done}
 use Rattle.lq_tell.specs.declared.done.Done.{Done}
 use Rattle.lq_tell.specs.declared.status.Status.{Status}

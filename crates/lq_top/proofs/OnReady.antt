@@ -10,14 +10,13 @@ use Rattle.lq_commands.specs.Works.{IsReady, OnIts}
 use Rattle.lq_commands.specs.declared.given.Asked.{Asked}
 use Rattle.lq_commands.specs.declared.given.Given.{Given}
 use Rattle.lq_run.specs.Commands.{HasDatabase}
-use Rattle.lq_store.specs.State.{State}
+use Rattle.lq_store.specs.Journal.{State}
 use Rattle.lq_tell.specs.declared.done.Done.{Done}
 use Rattle.lq_tell.specs.declared.status.Status.{Status}
 use Rattle.lq_track.specs.Database.{Database}
 use Rattle.lq_turns.specs.declared.stamp.Stamp.{Stamp}
 use Rattle.lq_top.proofs.RefusedKinds.{answers_kind, answers_whole}
-use Rattle.lq_top.specs.Bytes.{TellsDamage, given_at}
-use Rattle.lq_top.specs.Copies.{job_of}
+use Rattle.lq_top.specs.Bytes.{TellsDamage, given_at, job_of}
 use Rattle.lq_top.specs.Jobs.{job_refusal}
 use Rattle.lq_top.specs.Kinds.{IsOfDatabase}
 use Rattle.lq_top.specs.declared.copying.Printing.{Printing}

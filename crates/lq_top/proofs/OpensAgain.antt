@@ -9,22 +9,21 @@ use Rattle.lq_cli.specs.declared.line.Job.TheVariants.{Drill, History, RollbackS
 use Rattle.lq_rehearsal.proofs.FirstScripts.{AreFirst, rehearsal_first, rollback_first}
 use Rattle.lq_commands.proofs.Planned.{kept}
 use Rattle.lq_commands.proofs.ViewsRead.{views_are_read}
-use Rattle.lq_commands.specs.Parts.{counted_in}
+use Rattle.lq_commands.specs.Rehearsal.{counted_in}
 use Rattle.lq_commands.specs.Scripts.{log_in, script}
 use Rattle.lq_commands.specs.declared.given.Given.{Given}
 use Rattle.lq_entries.proofs.Folded.{folds}
 use Rattle.lq_entries.specs.Load.{folded, if_clean, is_clean, is_clean_database, read_entries}
 use Rattle.lq_entries.specs.Log.{entries_in, if_undamaged}
-use Rattle.lq_frames.specs.Journal.{journal_of, used_by}
+use Rattle.lq_frames.specs.Body.{journal_of, used_by}
 use Rattle.lq_frames.specs.declared.entry.Entry.{Entry as Placed}
-use Rattle.lq_kinds.specs.Dialects.{AreFor}
+use Rattle.lq_kinds.specs.AnyChange.{AreFor}
 use Rattle.lq_kinds.specs.declared.any_change.AnyChange.{AnyChange}
 use Rattle.lq_model.specs.Catalogue.{Catalogue, no_objects}
 use Rattle.lq_seen.specs.View.{any_meaning}
 use Rattle.lq_stand.proofs.FirstRows.{clear_is_first, release_is_first, sync_is_first, tag_is_first, update_is_first}
 use Rattle.lq_stand.proofs.StaysClean.{calls_stay_clean, clean_is_found, stops_stay_clean}
-use Rattle.lq_stand.specs.First.{calls_are_first}
-use Rattle.lq_stand.specs.Stays.{IsClean}
+use Rattle.lq_stand.specs.Stays.{calls_are_first, IsClean}
 use Rattle.lq_store.specs.Journal.{database as catalogue_by}
 use Rattle.lq_track.specs.Database.{Database}
 use Rattle.lq_turns.specs.Session.{left_by, session_on}

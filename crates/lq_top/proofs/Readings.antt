@@ -2,9 +2,9 @@
 use Rattle.std.proofs.Common.{ap, arith, inl, inr, refl, subst, sym, ◌∙◌}
 use Rattle.std.specs.Option.{option_map}
 use Rattle.std.specs.Prelude.{IfSome, List, None, Option, Some, [], length, slice_get, suc, zero, ℕ, ◌++◌, ◌∷◌, ◌≡◌, ◌≤◌, ◌⊎◌}
-use Rattle.lq_commands.specs.Reading.{ReadOnce}
-use Rattle.lq_outside.specs.Answers.{after_first}
-use Rattle.lq_top.specs.Clock.{ReadAtMostOnce, ReadInTurn, ReadUpTo, after_some}
+use Rattle.lq_commands.specs.Stamp.{ReadOnce}
+use Rattle.lq_outside.specs.Forms.{after_first}
+use Rattle.lq_top.specs.Kinds.{ReadAtMostOnce, ReadInTurn, ReadUpTo, after_some}
 
 none_some : {n : ℕ} → (let o : Option ℕ = None in o) ≡ Some n → ⊥
 none_some h = Prim.cc

@@ -18,10 +18,9 @@ use Rattle.lq_run.specs.Stands.{entries_of}
 use Rattle.lq_stand.proofs.Clean.{clean_stands}
 use Rattle.lq_stand.proofs.Places.{places_are_small}
 use Rattle.lq_store.specs.Executor.{Held, kept}
-use Rattle.lq_store.specs.Journal.{Entry, database as catalogue_by}
-use Rattle.lq_store.specs.State.{State}
+use Rattle.lq_store.specs.Journal.{Entry, database as catalogue_by, State}
 use Rattle.lq_track.specs.Database.{Database}
-use Rattle.lq_turns.specs.Held.{StandsFor}
+use Rattle.lq_turns.specs.Schedule.{StandsFor}
 use Rattle.lq_turns.specs.Session.{all_called, left_by, session_on}
 use Rattle.lq_turns.specs.Stops.{Journal}
 use Rattle.lq_turns.specs.declared.call.Call.{Call}

@@ -3,7 +3,7 @@ use Rattle.std.proofs.Common.{inl, inr, refl, subst, sym}
 use Rattle.std.specs.Prelude.{Err, List, None, Ok, Option, Result, Some, false, true, ℕ, ◌≡◌}
 use Rattle.lq_base.specs.declared.dialect.Dialect.{Dialect}
 use Rattle.lq_commands.proofs.PlainRefusals.{IsPlain}
-use Rattle.lq_commands.specs.Kinds.{is_diskless, is_of_database}
+use Rattle.lq_commands.specs.Jobs.{is_diskless, is_of_database}
 use Rattle.lq_commands.specs.Refusals.{Answers, IsFault, ends}
 use Rattle.lq_tell.specs.declared.done.Done.{Done}
 use Rattle.lq_tell.specs.declared.status.Status.{Status}

@@ -8,10 +8,9 @@ use Rattle.lq_commands.proofs.Planned.{kept}
 use Rattle.lq_commands.proofs.ViewsRead.{views_are_read}
 use Rattle.lq_commands.specs.Rehearsal.{rehearsal_script, rehearsed}
 use Rattle.lq_commands.specs.Scripts.{log_in}
-use Rattle.lq_commands.specs.Tells.{status_by}
-use Rattle.lq_commands.specs.Works.{is_finished}
+use Rattle.lq_commands.specs.Works.{status_by, is_finished}
 use Rattle.lq_commands.specs.declared.given.Given.{Given}
-use Rattle.lq_kinds.specs.Dialects.{AreFor}
+use Rattle.lq_kinds.specs.AnyChange.{AreFor}
 use Rattle.lq_model.proofs.Lists.{and_left}
 use Rattle.lq_rehearsal.proofs.Returned.{returned, unrefused}
 use Rattle.lq_rehearsal.specs.Returns.{Returned}

@@ -16,25 +16,23 @@ use Rattle.lq_base.specs.declared.identity.Identity.{Identity}
 use Rattle.lq_base.specs.declared.reason.Reason.{Reason}
 use Rattle.lq_base.specs.declared.tracking.Lock.{Lock}
 use Rattle.lq_base.specs.declared.tracking.Tracked.{Tracked}
-use Rattle.lq_changelog.specs.ShortTexts.{HasShortTexts}
+use Rattle.lq_changelog.specs.Gathers.{HasShortTexts}
 use Rattle.lq_cli.specs.declared.line.Job.{Job}
 use Rattle.lq_cli.specs.declared.line.Job.TheVariants.{Drill, History, RollbackSql, Run, Soak, UpdateCount, UpdateSql, UpdateTestingRollback, UpdateTo, Generate, ClearSums, UndoUnrecorded, Snapshot}
 use Rattle.lq_commands.proofs.Planned.{bare, kept, sets_bare}
 use Rattle.lq_commands.proofs.LoadedTexts.{view_has}
 use Rattle.lq_commands.proofs.ViewsRead.{views_are_read}
 use Rattle.lq_commands.specs.Refusals.{if_halts, if_some, invalid, own_halt, refusal, unready}
-use Rattle.lq_commands.specs.Parts.{counted_in}
-use Rattle.lq_commands.specs.Rehearsal.{after_update, came, rehearsal_script, taken_in, takes_back, updates}
+use Rattle.lq_commands.specs.Rehearsal.{counted_in, after_update, came, rehearsal_script, taken_in, takes_back, updates}
 use Rattle.lq_commands.specs.Scripts.{log_in, rollback_script, rollback_to, rolled_to, sets_in, sets_script, update_script, updated_in}
-use Rattle.lq_commands.specs.Tells.{status_by}
-use Rattle.lq_commands.specs.Works.{is_finished}
+use Rattle.lq_commands.specs.Works.{status_by, is_finished}
 use Rattle.lq_commands.specs.declared.given.Given.{Given}
 use Rattle.lq_expr.specs.declared.options.Options.{Options}
-use Rattle.lq_kinds.specs.Dialects.{AreFor}
+use Rattle.lq_kinds.specs.AnyChange.{AreFor}
 use Rattle.lq_kinds.specs.declared.any_change.AnyChange.{AnyChange}
 use Rattle.lq_kinds.specs.declared.change_set.ChangeSet.{ChangeSet}
 use Rattle.lq_model.proofs.Lists.{and_true}
-use Rattle.lq_model.specs.Names.{is_empty}
+use Rattle.lq_model.specs.Catalogue.{is_empty}
 use Rattle.lq_model.specs.Sound.{IsSound}
 use Rattle.lq_model.specs.declared.caller.Room.TheVariants.{Ordinary}
 use Rattle.lq_rehearsal.proofs.Cut.{in_one, none_written}
@@ -42,9 +40,8 @@ use Rattle.lq_rehearsal.proofs.FirstScripts.{rollback_sound, update_sound}
 use Rattle.lq_rehearsal.proofs.Shut.{rollback_over, update_over}
 use Rattle.lq_run.specs.Stands.{entries_of}
 use Rattle.lq_seen.proofs.OwnSums.{own_sum}
-use Rattle.lq_seen.specs.Printing.{Account}
-use Rattle.lq_seen.specs.Selection.{is_met}
-use Rattle.lq_seen.specs.View.{any_meaning, views}
+use Rattle.lq_seen.specs.Telling.{Account}
+use Rattle.lq_seen.specs.View.{is_met, any_meaning, views}
 use Rattle.lq_store.specs.Journal.{Entry}
 use Rattle.lq_tell.specs.declared.done.Done.{Done}
 use Rattle.lq_tell.specs.declared.status.Status.{Status}
@@ -59,18 +56,15 @@ use Rattle.lq_turns.proofs.Rolled.{rollback_leaves}
 use Rattle.lq_turns.proofs.Stands.{rollback_stops, sync_stops, update_stops}
 use Rattle.lq_turns.proofs.Trails.{update_resumes}
 use Rattle.lq_turns.proofs.Updates.{update_leaves}
-use Rattle.lq_turns.specs.Again.{are_twins, has_own_sum}
-use Rattle.lq_turns.specs.Contents.{Contents, contents_of}
-use Rattle.lq_turns.specs.Deed.{all_done}
+use Rattle.lq_turns.specs.Stops.{are_twins, has_own_sum, IsLeft, IsSteady, Journal, joined}
+use Rattle.lq_turns.specs.Deed.{Contents, contents_of, all_done}
 use Rattle.lq_turns.specs.Faults.{faults}
 use Rattle.lq_turns.specs.Laws.{AreKnown, AreRead, IsAtRest, rollback_calls}
 use Rattle.lq_turns.specs.Ran.{RanSince, Run as RunOf, are_reversible}
-use Rattle.lq_turns.specs.Rollback.{rollback_of, rows_kept, rows_undone, undo_turns}
-use Rattle.lq_turns.specs.Script.{calls_unless, clearing, closing, last_row, release_calls, tag_of, update_calls}
+use Rattle.lq_turns.specs.Script.{rollback_of, rows_kept, rows_undone, undo_turns, calls_unless, clearing, closing, last_row, release_calls, tag_of, update_calls}
 use Rattle.lq_turns.specs.Session.{all_called, left_by, session_on}
 use Rattle.lq_turns.specs.Set.{Changelog, Set}
 use Rattle.lq_turns.specs.Settle.{tested, updated}
-use Rattle.lq_turns.specs.Stops.{IsLeft, IsSteady, Journal, joined}
 use Rattle.lq_turns.specs.Trails.{IsStopped, is_by_count, rollback_to as calls_to}
 use Rattle.lq_turns.specs.declared.call.Call.{Call}
 use Rattle.lq_turns.specs.declared.call.Call.TheVariants.{Alone}
@@ -91,12 +85,10 @@ use Rattle.lq_top.proofs.Written.{Does, IsWritten, failed_unfinished, false_true
 use Rattle.lq_top.specs.Asks.{Asks, Files}
 use Rattle.lq_top.specs.Bytes.{Becomes, IsLeftOn, Opens, most_bytes}
 use Rattle.lq_entries.specs.Log.{entries_in}
-use Rattle.lq_top.specs.Headline.{HoldsAtRest}
+use Rattle.lq_top.specs.Headline.{HoldsAtRest, BackHeld, EndsSo, LeavesMarked, RehearsalHeld, RollbackResumes, StandsHeld, UpdateHeld, UpdateResumes, turns_to, without_stop, UpdateMends}
 use Rattle.lq_top.specs.Jobs.{DoesLine, IsLoaded, command_by, is_on_file, job_script}
-use Rattle.lq_top.specs.Resumed.{BackHeld, EndsSo, LeavesMarked, RehearsalHeld, RollbackResumes, StandsHeld, UpdateHeld, UpdateResumes, turns_to, without_stop}
 use Rattle.lq_top.specs.Run.{EndsBy, IsOutside, Runs, given_by, is_over}
 use Rattle.lq_top.specs.Says.{Said, SaysJob}
-use Rattle.lq_top.specs.TakenBack.{UpdateMends}
 
 -- what the law on updates asks of a view of a changelog
 

@@ -12,22 +12,18 @@ use Rattle.lq_base.specs.declared.tracking.Tracked.{Tracked}
 use Rattle.lq_cli.specs.declared.line.Job.{Job}
 use Rattle.lq_cli.specs.declared.line.Job.TheVariants.{Drill, History, RollbackSql, Run, Soak, UpdateCount, UpdateSql, UpdateTestingRollback, UpdateTo, Generate, ClearSums, UndoUnrecorded, Snapshot}
 use Rattle.lq_commands.proofs.Planned.{kept}
-use Rattle.lq_commands.specs.Generates.{generate_text}
-use Rattle.lq_commands.specs.Inserts.{TellsSync, synced_in}
+use Rattle.lq_commands.specs.Rehearsal.{generate_text, counted_in, TellsRun, Told, after_update, rehearsed, told_unless, unrehearsed, updates}
+use Rattle.lq_commands.specs.Works.{TellsSync, synced_in, TellsRollback, TellsUpdate, status_by, update_told, is_finished}
 use Rattle.lq_commands.specs.Outputs.{TellsJob, TellsText, at_once_text, back_in, released_text}
-use Rattle.lq_commands.specs.Parts.{counted_in}
 use Rattle.lq_commands.specs.Refusals.{Answers, ends, held, if_halts, if_not, if_some, invalid, no_way_back, own_halt, refusal, unreachable_by, unready, untagged}
-use Rattle.lq_commands.specs.Rehearsal.{TellsRun, Told, after_update, rehearsed, told_unless, unrehearsed, updates}
 use Rattle.lq_commands.specs.Scripts.{log_in, nothing_told, rolled_to, sets_in, update_script, updated_in}
-use Rattle.lq_commands.specs.Tells.{TellsRollback, TellsUpdate, status_by, update_told}
-use Rattle.lq_commands.specs.Works.{is_finished}
 use Rattle.lq_commands.specs.declared.given.Given.{Given}
 use Rattle.lq_generate.specs.Faults.{fault_at}
-use Rattle.lq_kinds.specs.Label.{is_label}
+use Rattle.lq_kinds.specs.ChangeSets.{is_label}
 use Rattle.lq_kinds.specs.declared.any_change.AnyChange.{AnyChange}
-use Rattle.lq_outside.specs.Sink.{IsPart}
+use Rattle.lq_outside.specs.Forms.{IsPart}
 use Rattle.lq_report.specs.Output.{cleared_text, history_text, sync_text, tagged_text, validated_text}
-use Rattle.lq_seen.specs.Printing.{Account, of_turns}
+use Rattle.lq_seen.specs.Telling.{Account, of_turns}
 use Rattle.lq_seen.specs.View.{any_meaning}
 use Rattle.lq_tell.specs.Texts.{EndsAs, IsSilent, has_output, out_text, status_done, text_or_none}
 use Rattle.lq_tell.specs.declared.done.Done.{Done}
@@ -37,11 +33,11 @@ use Rattle.lq_track.specs.Database.{Database, has_twin_rows}
 use Rattle.lq_track.specs.Log.{identity_of}
 use Rattle.lq_turns.proofs.Made.{with_users}
 use Rattle.lq_turns.proofs.Undone.{Undone, all_back}
-use Rattle.lq_turns.specs.Contents.{Contents, contents_of}
+use Rattle.lq_turns.specs.Deed.{Contents, contents_of}
 use Rattle.lq_turns.specs.Faults.{faults}
 use Rattle.lq_turns.specs.Laws.{AreKnown}
 use Rattle.lq_turns.specs.Ran.{RanSince, Run as RunOf, are_reversible}
-use Rattle.lq_turns.specs.Rollback.{all_rolled, not_reversible, rolled_as, rows_kept, rows_undone, undo_turn, undo_turns}
+use Rattle.lq_turns.specs.Script.{all_rolled, not_reversible, rolled_as, rows_kept, rows_undone, undo_turn, undo_turns}
 use Rattle.lq_turns.specs.Session.{left_by}
 use Rattle.lq_turns.specs.Set.{Set}
 use Rattle.lq_turns.specs.Settle.{Settled, all_settled, by_own, own_choice, unless_stopped}

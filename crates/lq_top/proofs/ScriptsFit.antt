@@ -9,11 +9,11 @@ use Rattle.lq_base.specs.declared.dialect.Dialect.{Dialect}
 use Rattle.lq_base.specs.declared.tracking.Tracked.{Tracked}
 use Rattle.lq_beside.proofs.OtherFits.{release_fits, rollback_fits, sync_fits, tag_fits}
 use Rattle.lq_beside.proofs.UpdateFits.{update_fits}
-use Rattle.lq_changelog.specs.ShortTexts.{HasShortTexts}
+use Rattle.lq_changelog.specs.Gathers.{HasShortTexts}
 use Rattle.lq_commands.proofs.Planned.{kept, return_too}
 use Rattle.lq_commands.proofs.ViewsRead.{views_are_read}
 use Rattle.lq_expr.specs.declared.options.Options.{Options}
-use Rattle.lq_kinds.specs.Dialects.{AreFor}
+use Rattle.lq_kinds.specs.AnyChange.{AreFor}
 use Rattle.lq_kinds.specs.declared.any_change.AnyChange.{AnyChange}
 use Rattle.lq_kinds.specs.declared.change_set.Changelog.{Changelog}
 use Rattle.lq_model.specs.Catalogue.{Catalogue}
@@ -23,10 +23,10 @@ use Rattle.lq_seen.specs.View.{any_meaning, view_log}
 use Rattle.lq_stand.proofs.FirstRows.{release_is_first, sync_is_first, tag_is_first, undone_is_first, update_is_first}
 use Rattle.lq_stand.proofs.StaysClean.{IsGood}
 use Rattle.lq_track.specs.Database.{Database}
-use Rattle.lq_turns.specs.Held.{StandsFor}
+use Rattle.lq_turns.specs.Schedule.{StandsFor}
 use Rattle.lq_turns.specs.Jobs.{script_of}
 use Rattle.lq_turns.specs.Laws.{rollback_calls}
-use Rattle.lq_turns.specs.Rollback.{rollback_of, rows_kept, rows_undone, undo_turns}
+use Rattle.lq_turns.specs.Script.{rollback_of, rows_kept, rows_undone, undo_turns}
 use Rattle.lq_turns.specs.Session.{session_on}
 use Rattle.lq_turns.specs.Set.{Changelog as Log}
 use Rattle.lq_turns.specs.declared.call.Call.{Call}

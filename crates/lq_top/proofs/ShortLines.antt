@@ -9,13 +9,11 @@ use Rattle.std.specs.Str.{is_utf8}
 use Rattle.lq_base.specs.declared.command.Command.TheVariants as command
 use Rattle.lq_base.specs.declared.dialect.Dialect.{Dialect}
 use Rattle.lq_cli.specs.Line.{line_of}
-use Rattle.lq_cli.specs.Values.{each}
+use Rattle.lq_cli.specs.Options.{each}
 use Rattle.lq_cli.specs.declared.line.Job.{Job}
 use Rattle.lq_cli.specs.declared.line.Job.TheVariants.{Drill, History, RollbackSql, Run, Soak, UpdateCount, UpdateSql, UpdateTestingRollback, UpdateTo, Generate, ClearSums, UndoUnrecorded, Snapshot}
 use Rattle.lq_cli.specs.declared.line.Line.{Line}
-use Rattle.lq_lines.specs.Commands.{command_of, is_empty, is_run, only_run, url_word, with_url, words_in}
-use Rattle.lq_lines.specs.File.{both_of, cut_lines, is_steps, lines_in, lines_of, lines_with}
-use Rattle.lq_lines.specs.Steps.{steps_of}
+use Rattle.lq_lines.specs.File.{command_of, is_empty, is_run, only_run, url_word, with_url, words_in, both_of, cut_lines, is_steps, lines_in, lines_of, lines_with, steps_of}
 use Rattle.lq_lines.specs.declared.lines.Lines.{Lines}
 use Rattle.lq_players.specs.AtOnce.{HasShortTag}
 use Rattle.lq_top.proofs.ShortTag.{Any, HasShort, IsShortLine, any, if_holds, of_short, then_holds}

@@ -3,19 +3,18 @@ use Rattle.std.proofs.Common.{leb-true, refl, subst}
 use Rattle.std.specs.Int.{is_in_range}
 use Rattle.std.specs.Option.{option_and_then, option_map}
 use Rattle.std.specs.Prelude.{Bool, IfSome, List, None, Option, Some, [], false, if◌then◌else◌, nat_le, not, true, ℕ, ◌&&◌, ◌∷◌, ◌≡◌, ◌≤◌}
-use Rattle.lq_base.specs.Character.{char_count, has_control}
+use Rattle.lq_base.specs.Number.{char_count, has_control}
 use Rattle.lq_base.specs.declared.command.Command.TheVariants as command
 use Rattle.lq_base.specs.declared.command.Target.{Target}
 use Rattle.lq_cli.specs.Line.{by_count, counting, drilling, generating, going, job_of, line_after, line_of, line_with, only_target, rollback, soak, tagging, to_date, to_tag}
-use Rattle.lq_cli.specs.Options.{definitions, given_in, value}
+use Rattle.lq_cli.specs.Options.{definitions, given_in, value, contexts_of, labels_of, number_from, properties_of, tag_of, url_of}
 use Rattle.lq_cli.specs.Table.{author, context_filter, count, date, form_of, label_filter, number, runs, sets, tag, url, verb_of}
-use Rattle.lq_cli.specs.Values.{contexts_of, labels_of, number_from, properties_of, tag_of, url_of}
 use Rattle.lq_cli.specs.declared.line.Job.{Job}
 use Rattle.lq_cli.specs.declared.line.Job.TheVariants.{Drill, Generate, RollbackSql, Run, UpdateCount, UpdateTo}
 use Rattle.lq_cli.specs.declared.line.Line.{Line}
 use Rattle.lq_cli.specs.declared.verb.Verb.{Verb}
 use Rattle.lq_cli.specs.declared.verb.Verb.TheVariants as verb
-use Rattle.lq_kinds.specs.Label.{is_label}
+use Rattle.lq_kinds.specs.ChangeSets.{is_label}
 use Rattle.lq_model.proofs.Lists.{and_left, and_right}
 use Rattle.lq_top.specs.Jobs.{job_tag}
 

@@ -5,12 +5,12 @@ use Rattle.std.specs.Option.{option_map, option_map_or}
 use Rattle.std.specs.Prelude.{Bool, Err, IfErr, IfOk, IfSome, List, MatchBool, None, Ok, Option, Result, Some, [], cond, false, is_some, suc, true, unwrap_or, zero, ℕ, ◌++◌, ◌∷◌, ◌≡◌, ◌≤◌, ◌⊎◌}
 use Rattle.lq_base.specs.declared.dialect.Dialect.{Dialect}
 use Rattle.lq_cli.specs.declared.line.Job.TheVariants.{Snapshot, UndoUnrecorded}
-use Rattle.lq_codec.specs.Database.{bytes_of}
+use Rattle.lq_codec.specs.Tables.{bytes_of}
 use Rattle.lq_codec.specs.State.{state_of}
 use Rattle.lq_commands.proofs.PlainRefusals.{IsPlain, held_plain}
 use Rattle.lq_commands.specs.Outputs.{TellsText}
 use Rattle.lq_commands.specs.Refusals.{Answers, IsFault, Passes, ends, fault_status, held}
-use Rattle.lq_commands.specs.Kinds.{is_diskless}
+use Rattle.lq_commands.specs.Jobs.{is_diskless}
 use Rattle.lq_commands.specs.Works.{IsReady, OnIts, is_finished}
 use Rattle.lq_commands.specs.declared.given.Given.{Given}
 use Rattle.lq_db.specs.Db.{HasState, IsDb, IsNew, IsValid, crashes as crashes_of, disk_in, is_unwritten, snapshot_entries, state}
@@ -27,11 +27,9 @@ use Rattle.lq_outside.specs.Crash.{Crashes as DiskCrashes, IsSound, LeavesOnly, 
 use Rattle.lq_report.specs.Output.{snapshot_text}
 use Rattle.lq_run.specs.Commands.{HasDatabase}
 use Rattle.lq_store.specs.Calls.{IsFull, MaySnapshot, ends_in_texts, stated}
-use Rattle.lq_store.specs.Crashes.{Crashes, Leaves as LeavesStore, LeavesFront, Since}
+use Rattle.lq_store.specs.Journal.{Crashes, Leaves as LeavesStore, LeavesFront, Since, Entry, IsFrontOf, end_of, is_full, State, with_entries}
 use Rattle.lq_store.specs.Executor.{Held, kept}
-use Rattle.lq_store.specs.Journal.{Entry, IsFrontOf, end_of, is_full}
 use Rattle.lq_store.specs.Journal.Entry.{Stated}
-use Rattle.lq_store.specs.State.{State, with_entries}
 use Rattle.lq_tell.specs.Texts.{status_done}
 use Rattle.lq_tell.specs.declared.done.Done.{Done}
 use Rattle.lq_tell.specs.declared.status.Status.{Status}
@@ -43,11 +41,9 @@ use Rattle.lq_top.proofs.LeftOnFile.{after_since, none_since, read_since, since_
 use Rattle.lq_top.proofs.OnFiles.{SameJournal, entries_told, entries_were, fault_answers, journal_stays, leads, load_unfinished, memory_unfinished, moments_on}
 use Rattle.lq_top.proofs.Ready.{opened}
 use Rattle.lq_top.proofs.RefusedKinds.{answers_memory}
-use Rattle.lq_top.specs.Bytes.{Holds, OnFile, Opens, in_use, load_status, most_bytes}
-use Rattle.lq_top.specs.Copies.{job_of}
+use Rattle.lq_top.specs.Bytes.{Holds, OnFile, Opens, in_use, load_status, most_bytes, job_of}
 use Rattle.lq_top.specs.Kinds.{IsOfDatabase}
-use Rattle.lq_top.specs.Snapped.{DoesSnapshot, HasNoRoom, HasSameEntries, HasSnapped, HasStated, HasWritten, IsSnapped, TellsSnapshot, is_due}
-use Rattle.lq_top.specs.Worked.{LeavesSince, SnappedOn, UsedDisk, WorkedOn}
+use Rattle.lq_top.specs.Worked.{DoesSnapshot, HasNoRoom, HasSameEntries, HasSnapped, HasStated, HasWritten, IsSnapped, TellsSnapshot, is_due, LeavesSince, SnappedOn, UsedDisk, WorkedOn}
 use Rattle.lq_top.specs.declared.copying.Printing.{Printing}
 use Rattle.lq_top.specs.declared.copying.Printing.TheVariants as print
 

@@ -9,7 +9,7 @@ use Rattle.lq_top.proofs.OpensAgain.{holds_opens, was_clean}
 use Rattle.lq_top.proofs.Unchanged.{holds_it}
 use Rattle.lq_top.specs.Asks.{Asks, Files}
 use Rattle.lq_top.specs.Bytes.{Holds, Opens}
-use Rattle.lq_top.specs.Snapped.{HasSameEntries, HasStated, IsSnapped, SnapshotOpens}
+use Rattle.lq_top.specs.Worked.{HasSameEntries, HasStated, IsSnapped, SnapshotOpens}
 use Rattle.lq_track.specs.Database.{Database}
 
 -- entries lead on from where those before them lead

@@ -10,7 +10,7 @@ use Rattle.lq_commands.specs.Refusals.{Answers, held}
 use Rattle.lq_commands.specs.Works.{is_finished}
 use Rattle.lq_entries.specs.Log.{entries_in}
 use Rattle.lq_outside.specs.Crash.{Crashes as DiskCrashes, IsSound}
-use Rattle.lq_outside.specs.Sink.{IsPart}
+use Rattle.lq_outside.specs.Forms.{IsPart}
 use Rattle.lq_report.specs.Output.{snapshot_text}
 use Rattle.lq_tell.specs.Texts.{EndsAs, has_output, out_text, status_done, text_or_none}
 use Rattle.lq_tell.specs.declared.done.Done.{Done}
@@ -24,8 +24,7 @@ use Rattle.lq_top.specs.Asks.{Asks, Files}
 use Rattle.lq_top.specs.Bytes.{CrashLeaves, Opens, most_bytes}
 use Rattle.lq_top.specs.Headline.{IsTaken, is_taken}
 use Rattle.lq_top.specs.Run.{EndsBy, IsOutside, is_over}
-use Rattle.lq_top.specs.Snapped.{CrashesSnapshot, DoesSnapshot, EndsSnapshot, HasNoRoom, HasSameEntries, HasSnapped, IsSnapped, IsSnapshotSafe, RunsSnapshot, RunsSnapshots, SaysSnapshot, TellsSnapshot}
-use Rattle.lq_top.specs.Worked.{SnappedBy, SnappedOn}
+use Rattle.lq_top.specs.Worked.{CrashesSnapshot, DoesSnapshot, EndsSnapshot, HasNoRoom, HasSameEntries, HasSnapped, IsSnapped, IsSnapshotSafe, RunsSnapshot, RunsSnapshots, SaysSnapshot, TellsSnapshot, SnappedBy, SnappedOn}
 
 -- a drill is another job
 pub drill_no_snapshot : {runs : List ℕ} → Drill runs ≡ Snapshot → ⊥

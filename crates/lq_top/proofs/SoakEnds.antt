@@ -11,13 +11,13 @@ use Rattle.lq_commands.specs.declared.given.Given.{Given}
 use Rattle.lq_tell.specs.declared.status.Status.{Status}
 use Rattle.lq_tell.specs.declared.status.Status.TheVariants as status
 use Rattle.lq_track.specs.Database.{Database}
-use Rattle.lq_turns.specs.Contents.{contents_of}
-use Rattle.lq_turns.specs.Rollback.{rows_kept}
+use Rattle.lq_turns.specs.Deed.{contents_of}
+use Rattle.lq_turns.specs.Script.{rows_kept}
 use Rattle.lq_turns.specs.Settle.{own_choice}
 use Rattle.lq_turns.specs.declared.choice.Choice.{Choice}
 use Rattle.lq_turns.specs.declared.choice.Choice.TheVariants as choice
 use Rattle.lq_top.proofs.Written.{Quiet, quiet_held, quiet_invalid, quiet_or, quiet_unready, quiet_untagged, quiet_way}
-use Rattle.lq_top.specs.Copies.{copy_status}
+use Rattle.lq_top.specs.Bytes.{copy_status}
 use Rattle.lq_top.specs.Soaked.{is_done}
 
 true_false : true ≡ false → ⊥

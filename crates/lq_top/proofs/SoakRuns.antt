@@ -22,8 +22,7 @@ use Rattle.lq_session.specs.Session.{begun_in}
 use Rattle.lq_entries.specs.Log.{as_entry, entries_in, if_undamaged, unplaced}
 use Rattle.lq_db.specs.declared.db.Db.{Db}
 use Rattle.lq_journal.proofs.Entries.{short}
-use Rattle.lq_frames.specs.Body.{is_state}
-use Rattle.lq_frames.specs.Journal.{from_last_state, has_state}
+use Rattle.lq_frames.specs.Body.{is_state, from_last_state, has_state}
 use Rattle.lq_journal.specs.State.{dialect_of, limit_of}
 use Rattle.lq_frames.specs.declared.entry.Body.{Body}
 use Rattle.lq_frames.specs.declared.entry.Body.TheVariants.{State, Texts}
@@ -41,14 +40,13 @@ use Rattle.lq_sources.proofs.Sources.{has_source}
 use Rattle.lq_sources.specs.Faults.{Loaded}
 use Rattle.lq_store.specs.Executor.{Held, kept}
 use Rattle.lq_store.specs.Calls.{is_of_texts}
-use Rattle.lq_store.specs.Journal.{Entry, database as catalogue_by}
-use Rattle.lq_store.specs.State.{State as StoreState}
+use Rattle.lq_store.specs.Journal.{Entry, database as catalogue_by, State as StoreState}
 use Rattle.lq_tell.specs.SoakLog.{soak_changelog, soak_path}
 use Rattle.lq_tell.specs.declared.done.Done.{Done}
 use Rattle.lq_tell.specs.declared.status.Status.{Status}
 use Rattle.lq_tell.specs.declared.status.Status.TheVariants as status
 use Rattle.lq_track.specs.Database.{Database}
-use Rattle.lq_turns.specs.Held.{StandsFor, own_names}
+use Rattle.lq_turns.specs.Schedule.{StandsFor, own_names}
 use Rattle.lq_turns.specs.Session.{left_by}
 use Rattle.lq_turns.specs.Stops.{Journal}
 use Rattle.lq_turns.specs.declared.call.Call.{Call}

@@ -8,24 +8,22 @@ use Rattle.lq_cli.specs.declared.line.Job.TheVariants.{Run}
 use Rattle.lq_commands.specs.Outputs.{TellsJob}
 use Rattle.lq_commands.specs.Refusals.{Answers, IsFault, ends, refusal}
 use Rattle.lq_commands.specs.Stamp.{stamp_of}
-use Rattle.lq_commands.specs.Tells.{status_by}
-use Rattle.lq_commands.specs.Works.{OnIts, is_finished}
+use Rattle.lq_commands.specs.Works.{status_by, OnIts, is_finished}
 use Rattle.lq_commands.specs.declared.given.Given.{Given}
 use Rattle.lq_db.specs.Db.{IsDb, IsNew, IsValid, state}
 use Rattle.lq_db.specs.declared.db.Db.{Db}
 use Rattle.lq_kinds.specs.declared.change_set.Changelog.{Changelog}
 use Rattle.lq_outside.specs.Crash.{Crashes}
 use Rattle.lq_store.specs.Executor.{Held}
-use Rattle.lq_store.specs.State.{State}
+use Rattle.lq_store.specs.Journal.{State}
 use Rattle.lq_tell.specs.declared.done.Done.{Done}
 use Rattle.lq_tell.specs.declared.status.Status.{Status}
 use Rattle.lq_tell.specs.declared.status.Status.TheVariants as status
 use Rattle.lq_track.specs.Database.{Database}
 use Rattle.lq_turns.specs.declared.stamp.Stamp.{Stamp}
 use Rattle.lq_turns.specs.declared.stop.Stop.{Stop}
-use Rattle.lq_top.specs.Bytes.{Holds, most_bytes}
+use Rattle.lq_top.specs.Bytes.{Holds, most_bytes, copy_status}
 use Rattle.lq_top.proofs.SoakRuns.{has_it, nothing_holds, same_made}
-use Rattle.lq_top.specs.Copies.{copy_status}
 use Rattle.lq_top.specs.Soaked.{Did, DidOn, DidOnEach, Ended, EndsIn, EndsOn, EndsOnEach, FailsSoak, IsMade, LacksOr, TellsSoak, empty, is_done, soak_given, stop_in, take_back, updated}
 
 false_true : false ≡ true → ⊥

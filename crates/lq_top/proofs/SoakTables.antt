@@ -10,12 +10,12 @@ use Rattle.lq_base.specs.declared.tracking.Tracked.{Tracked}
 use Rattle.lq_model.proofs.Lists.{same_name}
 use Rattle.lq_model.specs.Catalogue.{Catalogue, Table, table_of}
 use Rattle.lq_run.specs.Commands.{HasDatabase}
-use Rattle.lq_store.specs.State.{State, seen, seen_in}
+use Rattle.lq_store.specs.Journal.{State, seen, seen_in}
 use Rattle.lq_tell.specs.SoakLog.{table_name}
 use Rattle.lq_track.specs.Database.{Database, lock_of, rows_of, users_of}
 use Rattle.lq_track.specs.Lock.{lock_table}
 use Rattle.lq_track.specs.Log.{log_table}
-use Rattle.lq_turns.specs.Held.{StandsFor}
+use Rattle.lq_turns.specs.Schedule.{StandsFor}
 use Rattle.lq_top.specs.Soaked.{IsLeft, tables_there}
 
 some_same : {A : Type 0} {a b : A} → Some a ≡ Some b → a ≡ b

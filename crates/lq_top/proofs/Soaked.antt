@@ -3,17 +3,17 @@ use Rattle.std.proofs.Common.{inl, inr, refl, subst, sym}
 use Rattle.std.specs.Prelude.{Err, IfErr, List, None, Ok, OnOk, Option, Result, Some, true, ◌≡◌}
 use Rattle.lq_base.specs.declared.dialect.Dialect.{Dialect}
 use Rattle.lq_commands.proofs.PlainRefusals.{IsPlain}
-use Rattle.lq_commands.specs.Kinds.{is_diskless}
+use Rattle.lq_commands.specs.Jobs.{is_diskless}
 use Rattle.lq_commands.specs.Refusals.{Answers, IsFault, ends}
 use Rattle.lq_commands.specs.Works.{Works, is_finished}
-use Rattle.lq_store.specs.State.{State}
+use Rattle.lq_store.specs.Journal.{State}
 use Rattle.lq_tell.specs.declared.done.Done.{Done}
 use Rattle.lq_tell.specs.declared.status.Status.{Status}
 use Rattle.lq_tell.specs.declared.status.Status.TheVariants as status
 use Rattle.lq_track.specs.Database.{Database}
 use Rattle.lq_turns.specs.declared.call.Call.{Call}
 use Rattle.lq_top.proofs.RefusedKinds.{ends_soak}
-use Rattle.lq_top.specs.Copies.{copy_status}
+use Rattle.lq_top.specs.Bytes.{copy_status}
 
 plain_passes : (s : Status) → is_diskless s ≡ true → is_diskless (copy_status s) ≡ true
 plain_passes status.Done is = is

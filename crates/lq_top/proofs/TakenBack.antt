@@ -4,8 +4,8 @@ use Rattle.std.specs.Prelude.{List, None, Option, Some, option_and_then, option_
 use Rattle.laws_repair.specs.Repair.{IsWhole}
 use Rattle.laws_undo.specs.Undone.{PartsAreTakenBack, TakesBack, calls_on}
 use Rattle.lq_base.specs.declared.identity.Identity.{Identity}
-use Rattle.lq_db.specs.Last.{last_text}
-use Rattle.lq_mending.specs.Refusing.{back_refused}
+use Rattle.lq_db.specs.Db.{last_text}
+use Rattle.lq_mending.specs.Comes.{back_refused}
 use Rattle.lq_mending.specs.Undoes.{Standing, first_of, undo_script, unrecorded}
 use Rattle.lq_mending.specs.declared.outcome.RepairFault.{RepairFault}
 use Rattle.lq_tell.specs.declared.status.Status.{Status}
@@ -13,7 +13,7 @@ use Rattle.lq_tell.specs.declared.status.Status.TheVariants as status
 use Rattle.lq_top.proofs.Said.{is_taken_by}
 use Rattle.lq_top.specs.Asks.{Asks, Files}
 use Rattle.lq_top.specs.Run.{EndsBy}
-use Rattle.lq_top.specs.TakenBack.{TakesPartBack, point_of}
+use Rattle.lq_top.specs.Headline.{TakesPartBack, point_of}
 use Rattle.lq_top.specs.Undone.{RunsUndone, SaysPart, SaysUndone, last_on, undo_calls}
 use Rattle.lq_track.specs.Database.{Database}
 use Rattle.lq_turns.specs.Session.{left_by}

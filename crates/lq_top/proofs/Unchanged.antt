@@ -11,7 +11,7 @@ use Rattle.lq_commands.specs.declared.given.Given.{Given}
 use Rattle.lq_entries.proofs.Folded.{folded_runs}
 use Rattle.lq_entries.specs.Load.{folded, if_clean, is_clean, read_entries}
 use Rattle.lq_entries.specs.Log.{entries_in, if_undamaged, unplaced}
-use Rattle.lq_frames.specs.Journal.{journal_of, used_by}
+use Rattle.lq_frames.specs.Body.{journal_of, used_by}
 use Rattle.lq_frames.specs.declared.entry.Entry.{Entry as Placed}
 use Rattle.lq_model.specs.Catalogue.{Catalogue, no_objects}
 use Rattle.lq_run.specs.Stands.{HadRoom}
@@ -24,8 +24,7 @@ use Rattle.lq_turns.specs.Session.{all_called, left_by, session_on}
 use Rattle.lq_turns.specs.Stops.{Journal}
 use Rattle.lq_turns.specs.declared.call.Call.{Call}
 use Rattle.lq_turns.specs.declared.deed.Deed.{Deed}
-use Rattle.lq_top.specs.Bytes.{Becomes, HadRoomOn, Holds, IsLeftOn, OnFile, Opens, SaysFullOn, TellsRoomOn, WorksOn, in_use, most_bytes}
-use Rattle.lq_top.specs.Copies.{job_of}
+use Rattle.lq_top.specs.Bytes.{Becomes, HadRoomOn, Holds, IsLeftOn, OnFile, Opens, SaysFullOn, TellsRoomOn, WorksOn, in_use, most_bytes, job_of}
 use Rattle.lq_top.specs.Jobs.{DoesJob, MakesAgain, goes_on, is_apart, is_own, job_calls, job_refusal, job_script}
 use Rattle.lq_top.specs.declared.copying.Printing.{Printing}
 use Rattle.lq_top.specs.declared.copying.Printing.TheVariants as print

@@ -7,12 +7,11 @@ use Rattle.lq_base.specs.declared.identity.Identity.{Identity}
 use Rattle.lq_base.specs.declared.tracking.Tracked.{Tracked}
 use Rattle.lq_cli.specs.declared.line.Job.TheVariants.{Snapshot, UndoUnrecorded}
 use Rattle.lq_commands.proofs.PlainRefusals.{IsNotFull, IsPlain}
-use Rattle.lq_commands.specs.Kinds.{is_diskless}
+use Rattle.lq_commands.specs.Jobs.{is_diskless}
 use Rattle.lq_commands.specs.Refusals.{Answers}
 use Rattle.lq_commands.specs.Works.{CrashesIn, IsKept, IsReady, OnIts, Works, is_finished}
 use Rattle.lq_commands.specs.declared.given.Given.{Given}
-use Rattle.lq_db.specs.Db.{IsDb, IsNew, IsValid, crashes as crashes_of, disk_in, state}
-use Rattle.lq_db.specs.Last.{last_text}
+use Rattle.lq_db.specs.Db.{IsDb, IsNew, IsValid, crashes as crashes_of, disk_in, state, last_text}
 use Rattle.lq_db.specs.Load.{IsDbFault}
 use Rattle.lq_db.specs.declared.db.Db.{Db}
 use Rattle.lq_entries.specs.Load.{catalogue_of}
@@ -24,13 +23,12 @@ use Rattle.lq_kinds.specs.declared.change_set.Changelog.{Changelog}
 use Rattle.lq_mending.specs.Undoes.{can_undo, if_faults, invalid, is_of_calls, refusal, refusal_at, set_marked, sets_in, undo_script, unless_undone, unrecorded}
 use Rattle.lq_mending.specs.declared.outcome.RepairFault.{RepairFault}
 use Rattle.lq_mending.specs.declared.outcome.RepairFault.TheVariants as fault
-use Rattle.lq_outside.specs.Count.{Rose}
+use Rattle.lq_outside.specs.Forms.{Rose}
 use Rattle.lq_outside.specs.Crash.{Crashes as DiskCrashes, IsSound, LeavesOnly, Settled}
 use Rattle.lq_report.specs.Mark.{Marked}
 use Rattle.lq_run.specs.Commands.{HasDatabase}
 use Rattle.lq_store.specs.Executor.{Held, kept}
-use Rattle.lq_store.specs.Journal.{Entry}
-use Rattle.lq_store.specs.State.{State}
+use Rattle.lq_store.specs.Journal.{Entry, State}
 use Rattle.lq_tell.specs.declared.done.Done.{Done}
 use Rattle.lq_tell.specs.declared.status.Status.{Status}
 use Rattle.lq_tell.specs.declared.status.Status.TheVariants as status
@@ -47,8 +45,7 @@ use Rattle.lq_top.proofs.OnReady.{ready_kind, ready_tells}
 use Rattle.lq_top.proofs.Ready.{opened}
 use Rattle.lq_top.proofs.RefusedKinds.{answers_memory}
 use Rattle.lq_top.proofs.Unchanged.{had_room, left_same, says_full}
-use Rattle.lq_top.specs.Bytes.{OnFile, Opens, TellsDamage, load_status, most_bytes}
-use Rattle.lq_top.specs.Copies.{job_of}
+use Rattle.lq_top.specs.Bytes.{OnFile, Opens, TellsDamage, load_status, most_bytes, job_of}
 use Rattle.lq_top.specs.Kinds.{IsOfDatabase}
 use Rattle.lq_top.specs.Undone.{DoesUndo, last_on, undo_calls}
 use Rattle.lq_top.specs.Worked.{CrashesSince, UndoneOn, UsedDisk, WorkedOn}

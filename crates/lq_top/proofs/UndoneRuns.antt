@@ -7,7 +7,7 @@ use Rattle.lq_commands.specs.Refusals.{Answers, ends}
 use Rattle.lq_commands.specs.Works.{is_finished}
 use Rattle.lq_expr.specs.declared.options.Options.{Options}
 use Rattle.lq_kinds.specs.declared.change_set.Changelog.{Changelog}
-use Rattle.lq_mending.specs.Refusing.{back_refused}
+use Rattle.lq_mending.specs.Comes.{back_refused}
 use Rattle.lq_mending.specs.Undoes.{Standing, first_of}
 use Rattle.lq_outside.specs.Crash.{Crashes as DiskCrashes, IsSound, Settled}
 use Rattle.lq_tell.specs.Texts.{EndsAs, has_output, out_text, status_done, text_or_none}

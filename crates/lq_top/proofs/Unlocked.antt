@@ -9,8 +9,7 @@ use Rattle.lq_commands.specs.Scripts.{rollback_script, rollback_to, sets_in, syn
 use Rattle.lq_commands.specs.declared.given.Given.{Given}
 use Rattle.lq_seen.specs.View.{any_meaning}
 use Rattle.lq_track.specs.Database.{Database}
-use Rattle.lq_turns.specs.Rollback.{rollback_of, rows_kept, rows_undone, undo_turns}
-use Rattle.lq_turns.specs.Script.{rows_to_sync, sync_of}
+use Rattle.lq_turns.specs.Script.{rollback_of, rows_kept, rows_undone, undo_turns, rows_to_sync, sync_of}
 use Rattle.lq_turns.specs.declared.call.Call.{Call}
 use Rattle.lq_turns.specs.declared.turn.Turn.{Turn}
 

@@ -13,9 +13,8 @@ use Rattle.lq_base.specs.declared.tracking.Tracked.{Tracked}
 use Rattle.lq_cli.specs.declared.line.Job.{Job}
 use Rattle.lq_cli.specs.declared.line.Job.TheVariants.{Drill, History, RollbackSql, Run, Soak, UpdateCount, UpdateSql, UpdateTestingRollback, UpdateTo, Generate, ClearSums, UndoUnrecorded, Snapshot}
 use Rattle.lq_commands.proofs.PlainRefusals.{IsNotFull, refusal_not_full, rehearsal_not_full, held_not_full}
-use Rattle.lq_commands.specs.Parts.{counted_in}
+use Rattle.lq_commands.specs.Rehearsal.{counted_in, after_update, bound_by, rehearsal_refusal, unrehearsed, updates as update_run}
 use Rattle.lq_commands.specs.Refusals.{Answers, IsFault, ends, held, if_halts, if_not, if_some, invalid, own_halt, unreachable_by, unready, untagged}
-use Rattle.lq_commands.specs.Rehearsal.{after_update, bound_by, rehearsal_refusal, unrehearsed, updates as update_run}
 use Rattle.lq_commands.specs.Scripts.{log_in, script, sets_in, update_script}
 use Rattle.lq_commands.specs.Works.{is_finished}
 use Rattle.lq_commands.specs.declared.given.Given.{Given}
@@ -23,20 +22,18 @@ use Rattle.lq_generate.specs.Faults.{fault_at}
 use Rattle.lq_sources.specs.declared.fault.LoadFault.{LoadFault}
 use Rattle.lq_sources.specs.declared.fault.LoadFault.TheVariants as load
 use Rattle.lq_seen.specs.View.{any_meaning}
-use Rattle.lq_tell.specs.Lines.{status_lines, warning_lines}
+use Rattle.lq_tell.specs.Lines.{status_lines, warning_lines, log_text, stands_alone, warnings_of}
 use Rattle.lq_model.specs.Sound.{IsSound}
-use Rattle.lq_outside.specs.Sink.{IsPart}
-use Rattle.lq_tell.specs.Log.{log_text, stands_alone, warnings_of}
+use Rattle.lq_outside.specs.Forms.{IsPart}
 use Rattle.lq_tell.specs.Texts.{EndsAs, has_output, out_of, status_done}
 use Rattle.lq_tell.specs.declared.done.Done.{Done}
 use Rattle.lq_tell.specs.declared.status.Status.{Status}
 use Rattle.lq_tell.specs.declared.status.Status.TheVariants as status
 use Rattle.lq_track.specs.Database.{Database}
 use Rattle.lq_track.specs.Lock.{free}
-use Rattle.lq_turns.specs.Contents.{Contents, contents_of}
+use Rattle.lq_turns.specs.Deed.{Contents, contents_of}
 use Rattle.lq_turns.specs.Faults.{faults}
-use Rattle.lq_turns.specs.Rollback.{not_reversible, rows_kept, rows_undone}
-use Rattle.lq_turns.specs.Script.{calls_unless, has_work}
+use Rattle.lq_turns.specs.Script.{not_reversible, rows_kept, rows_undone, calls_unless, has_work}
 use Rattle.lq_turns.specs.Session.{left_by as left_after}
 use Rattle.lq_turns.specs.Settle.{Settled, all_settled, by_own, is_halt, own_choice}
 use Rattle.lq_turns.specs.declared.call.Call.{Call}

@@ -5,13 +5,12 @@ use Rattle.lq_cli.specs.Line.{line_of}
 use Rattle.lq_cli.specs.declared.line.Job.{Job}
 use Rattle.lq_cli.specs.declared.line.Job.TheVariants.{Drill}
 use Rattle.lq_cli.specs.declared.line.Line.{Line}
-use Rattle.lq_commands.specs.Parts.{part_for}
+use Rattle.lq_commands.specs.Rehearsal.{part_for}
 use Rattle.lq_kinds.specs.declared.change_set.Changelog.{Changelog}
-use Rattle.lq_sources.specs.Answers.{IsTold, Source, map_ok}
-use Rattle.lq_sources.specs.Faults.{Loaded}
+use Rattle.lq_sources.specs.Faults.{IsTold, Loaded, Source, map_ok}
 use Rattle.lq_sources.specs.declared.fault.LoadFault.{LoadFault}
 use Rattle.lq_top.specs.Drills.{drill_of}
-pub use Rattle.lq_top.specs.Loads.{Files, asked_by, file_status, loaded, no_changelog}
+pub use Rattle.lq_top.specs.Drills.{Files, asked_by, file_status, loaded, no_changelog}
 
 -- the job is a drill
 abbrev pub is_drill : Job → Bool

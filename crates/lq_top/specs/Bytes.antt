@@ -1,27 +1,38 @@
 -- The database that the bytes of a file hold.
 use Rattle.std.specs.Option.{option_map}
-use Rattle.std.specs.Prelude.{Err, IfSome, IsTrue, List, Ok, Option, Result, Some, [], false, true, ℕ, ◌+◌, ◌++◌, ◌∷◌, ◌≡◌, ◌⊎◌}
+use Rattle.std.specs.Prelude.{Err, IfSome, IsTrue, List, Ok, Option, Result, Some, [], false, length, true, ℕ, ◌++◌, ◌+◌, ◌<◌, ◌∷◌, ◌≡◌, ◌⊎◌}
 use Rattle.lq_base.specs.declared.dialect.Dialect.{Dialect}
-use Rattle.lq_commands.specs.Works.{is_finished}
+use Rattle.lq_cli.specs.declared.line.Job.{Job}
+use Rattle.lq_cli.specs.declared.line.Job.TheVariants.{RollbackSql, UpdateSql}
+use Rattle.lq_commands.specs.Works.{IsReady, is_finished}
 use Rattle.lq_commands.specs.declared.given.Asked.{Asked}
 use Rattle.lq_commands.specs.declared.given.Given.{Given}
-use Rattle.lq_entries.specs.Load.{catalogue_of}
+use Rattle.lq_db.specs.Db.{IsDb, IsNew, engine_in, state}
+use Rattle.lq_db.specs.declared.db.Db.{Db}
+use Rattle.lq_engine.specs.State.{State}
+use Rattle.lq_entries.specs.Load.{catalogue_of, is_clean}
 use Rattle.lq_entries.specs.Log.{entries_in}
+use Rattle.lq_generate.specs.Faults.{IsReadBack}
+use Rattle.lq_generate.specs.Generated.{generated_text}
 use Rattle.lq_journal.specs.declared.fault.LoadFault.{LoadFault}
 use Rattle.lq_journal.specs.declared.fault.LoadFault.TheVariants as load
 use Rattle.lq_model.specs.Catalogue.{Catalogue}
 use Rattle.lq_model.specs.declared.caller.Room.{Room}
 use Rattle.lq_model.specs.declared.caller.Room.TheVariants.{Ordinary}
+use Rattle.lq_named.specs.Named.{HasNames}
 use Rattle.lq_outside.specs.Crash.{Crashes as DiskCrashes}
 use Rattle.lq_run.specs.Left.{ClosesHeld, IsAtMostFreed, IsNextIn, LeavesLock}
 use Rattle.lq_run.specs.Stands.{HadRoom, entries_of}
-use Rattle.lq_store.specs.Journal.{Entry, database as catalogue_by, end_of, is_full, size_of_all}
+use Rattle.lq_store.specs.Executor.{Held, holding, kept}
+use Rattle.lq_store.specs.Journal.{Entry, State as StoreState, database as catalogue_by, end_of, is_full, size_of_all}
 use Rattle.lq_tell.specs.declared.done.Done.{Done}
 use Rattle.lq_tell.specs.declared.status.Status.{Status}
 use Rattle.lq_tell.specs.declared.status.Status.TheVariants as status
+use Rattle.lq_top.specs.declared.copying.Printing.{Printing}
+use Rattle.lq_top.specs.declared.copying.Printing.TheVariants as printing
 use Rattle.lq_track.specs.Database.{Database}
 use Rattle.lq_turns.specs.Deed.{all_done}
-use Rattle.lq_turns.specs.Held.{StandsFor}
+use Rattle.lq_turns.specs.Schedule.{StandsFor}
 use Rattle.lq_turns.specs.Session.{all_called, called, left_by, room_of, session_on}
 use Rattle.lq_turns.specs.Stops.{IsLeft, Journal, joined}
 use Rattle.lq_turns.specs.declared.call.Call.{Call}
@@ -149,3 +160,49 @@ load_status load.OutOfMemory = status.OutOfMemory
 -- what a command works with once the clock is read
 abbrev pub given_at : Asked → Stamp → Given
 given_at asked stamp = record { changelog = asked.changelog; options = asked.options; stamp = stamp }
+
+-- Commands whose statements are printed: they run on a copy of the file in memory.
+
+abbrev pub job_of : Printing → Job
+job_of printing.Update = UpdateSql
+job_of (printing.Rollback target) = RollbackSql target.now
+
+-- a fault of the disk in memory is want of memory
+abbrev pub copy_status : Status → Status
+copy_status status.DiskFault = status.OutOfMemory
+copy_status s = s
+
+-- what a command answers on a disk in memory
+abbrev pub copied : Result Done Status → Result Done Status
+copied (Ok done) = Ok done
+copied (Err s) = Err (copy_status s)
+
+-- there is no copy: the file is too long, or a fault was met
+abbrev pub IsNoCopy : Option (List ℕ) → Status → Type 0
+IsNoCopy told (status.Damaged at) = (at ≡ most_bytes) × IfSome told (λ bytes. most_bytes < length bytes)
+IsNoCopy told status.DiskFault = Unit {0}
+IsNoCopy told status.OutOfMemory = Unit {0}
+IsNoCopy told s = ⊥
+
+-- A database over the engine, as its objects are written as a changelog.
+
+module _ {D P : Type 0} where
+  -- what its engine holds
+  abbrev pub held_in : Db D P State → Held
+  held_in db = holding (engine_in db).dialect (engine_in db).now (engine_in db).past
+
+  abbrev pub state_in : Option (List ℕ) → Db D P State → StoreState
+  state_in told db = state told (held_in db) db
+
+  -- it was loaded from what its disk tells
+  pub record IsLoadedFrom (sql d : Dialect) (told : Option (List ℕ)) (disk : DiskCrashes) (db : Db D P State) : Type 0 where
+    pub valid : IsDb sql told disk (held_in db) db
+    pub ready : IsReady d (state_in told db)
+    pub new : IsNew d most_bytes db
+    pub clean : is_clean d (kept (held_in db)) ≡ true
+    pub read : IfSome told (λ bytes. catalogue_of d most_bytes bytes ≡ Ok (kept (held_in db)))
+
+-- each name of these objects is a name, and their changelog's text is read as the tree that it was made from
+pub record IsWellWritten (d : Dialect) (author : List ℕ) (users : Catalogue) : Type 0 where
+  pub names : HasNames users
+  pub reads : IsReadBack d author users (generated_text d author users)

@@ -1,40 +1,44 @@
 -- What a drill does.
-use Rattle.std.specs.List.{All}
-use Rattle.std.specs.Prelude.{Bool, Err, IfSome, IsTrue, List, None, Ok, Option, Result, Some, [], false, true, length, map, option_map, slice_get, suc, zero, ℕ, ◌++◌, ◌∷◌, ◌≡◌, ◌≤◌, ◌⊎◌}
 use Rattle.std.specs.Int.{IsInRange}
+use Rattle.std.specs.List.{All}
+use Rattle.std.specs.Prelude.{Bool, Err, IfSome, IsTrue, List, None, Ok, Option, Result, Some, [], false, length, map, option_map, slice_get, suc, true, zero, ℕ, ◌++◌, ◌∷◌, ◌≡◌, ◌≤◌, ◌⊎◌}
 use Rattle.lq_base.specs.declared.command.Command.{Command}
 use Rattle.lq_base.specs.declared.command.Command.TheVariants.{Release}
 use Rattle.lq_base.specs.declared.dialect.Dialect.{Dialect}
-use Rattle.lq_changelog.specs.ShortTexts.{HasShortTexts}
+use Rattle.lq_changelog.specs.Gathers.{HasShortTexts}
 use Rattle.lq_cli.specs.Line.{line_of}
 use Rattle.lq_cli.specs.declared.line.Job.TheVariants.{Drill}
 use Rattle.lq_cli.specs.declared.line.Line.{Line}
-use Rattle.lq_commands.specs.Stamp.{numbered_stamp}
-use Rattle.lq_commands.specs.Who.{clean}
-use Rattle.lq_entries.specs.Log.{entries_in}
-use Rattle.lq_drill.specs.Faults.{Comes, FallsFirst, FreesAtMostOnce, FreesEarly, IsLetGo, Meets, Steps}
+use Rattle.lq_commands.specs.Stamp.{clean, numbered_stamp}
+use Rattle.lq_drill.specs.Faults.{Comes, FallsFirst, FreesAtMostOnce, FreesEarly, HadRoom, IsLetGo, Meets, Steps, entries_of}
 use Rattle.lq_drill.specs.Player.{MayAnswer, answer_of}
-use Rattle.lq_drill.specs.Shows.{HadRoom, entries_of}
-use Rattle.lq_drill.specs.declared.fault.DrillFault.TheVariants as fault
 use Rattle.lq_drill.specs.declared.fault.DrillFault.{DrillFault}
-use Rattle.lq_kinds.specs.Dialects.{AreFor}
+use Rattle.lq_drill.specs.declared.fault.DrillFault.TheVariants as fault
+use Rattle.lq_entries.specs.Log.{entries_in}
+use Rattle.lq_kinds.specs.AnyChange.{AreFor}
 use Rattle.lq_kinds.specs.declared.any_change.AnyChange.{AnyChange}
 use Rattle.lq_outside.specs.Crash.{Crashes as DiskCrashes, Settled}
-use Rattle.lq_outside.specs.Sink.{IsPart}
-use Rattle.lq_playing.specs.Came.{as_busy, as_failed, as_locked}
-use Rattle.lq_playing.specs.declared.came.Came.{Came}
+use Rattle.lq_outside.specs.Forms.{IsPart}
+use Rattle.lq_players.specs.AnyCommand.{BeginInTurn, NoneReleases, works}
 use Rattle.lq_players.specs.AtOnce.{HasShortTag}
-use Rattle.lq_players.specs.Drilling.{BeginInTurn, NoneReleases, works}
 use Rattle.lq_players.specs.Tasks.{task_for}
+use Rattle.lq_playing.specs.Answers.{as_busy, as_failed, as_locked}
+use Rattle.lq_playing.specs.declared.came.Came.{Came}
 use Rattle.lq_report.specs.Output.{drill_text}
 use Rattle.lq_report.specs.declared.drill.Drilled.{Drilled}
-use Rattle.lq_sources.specs.Answers.{IsTold, Source}
-use Rattle.lq_sources.specs.Faults.{Loaded}
+use Rattle.lq_sources.specs.Faults.{IsTold, Loaded, Source}
 use Rattle.lq_sources.specs.declared.fault.LoadFault.{LoadFault}
 use Rattle.lq_store.specs.Journal.{Entry}
 use Rattle.lq_tell.specs.declared.done.Done.{Done}
 use Rattle.lq_tell.specs.declared.status.Status.{Status}
 use Rattle.lq_tell.specs.declared.status.Status.TheVariants as status
+use Rattle.lq_top.specs.Asks.{Files}
+use Rattle.lq_top.specs.Bytes.{Holds, OnFile, Opens, WasLeft, in_use, most_bytes}
+use Rattle.lq_top.specs.Drills.{drill_of, file_status}
+use Rattle.lq_top.specs.Kinds.{IsNotLoaded, IsOfFiles, IsOfWords, ReadInTurn, ReadUpTo, Refuses, is_of_drill}
+use Rattle.lq_top.specs.Worked.{UsedDisk}
+use Rattle.lq_top.specs.declared.drilling.Drilling.{Drilling}
+use Rattle.lq_top.specs.declared.drilling.Entrant.{Entrant}
 use Rattle.lq_track.specs.Database.{Database}
 use Rattle.lq_turns.specs.Deed.{all_done}
 use Rattle.lq_turns.specs.Jobs.{Task}
@@ -45,15 +49,6 @@ use Rattle.lq_turns.specs.Stops.{joined}
 use Rattle.lq_turns.specs.declared.answer.Answer.{Answer}
 use Rattle.lq_turns.specs.declared.answer.Answer.TheVariants as answer
 use Rattle.lq_turns.specs.declared.deed.Deed.{Deed}
-use Rattle.lq_top.specs.Asks.{Files}
-use Rattle.lq_top.specs.Bytes.{Holds, OnFile, Opens, WasLeft, in_use, most_bytes}
-use Rattle.lq_top.specs.Clock.{ReadInTurn, ReadUpTo}
-use Rattle.lq_top.specs.Drills.{drill_of}
-use Rattle.lq_top.specs.Kinds.{IsNotLoaded, IsOfFiles, IsOfWords, Refuses, is_of_drill}
-use Rattle.lq_top.specs.Loads.{file_status}
-use Rattle.lq_top.specs.Worked.{UsedDisk}
-use Rattle.lq_top.specs.declared.drilling.Drilling.{Drilling}
-use Rattle.lq_top.specs.declared.drilling.Entrant.{Entrant}
 
 -- The command of each number, from 1, is on its changelog, and has its name and its reading.
 abbrev pub AreTasks : List ℕ → List Entrant → List ℕ → (ℕ → Task AnyChange) → Type 0

@@ -1,27 +1,27 @@
 -- What a job does on a database file.
 use Rattle.std.specs.List.{All}
 use Rattle.std.specs.Prelude.{Bool, Err, IfOk, List, None, Option, Result, Some, false, true, ℕ, ◌&&◌, ◌≡◌, ◌⊎◌}
+use Rattle.laws_generate.specs.Again.{TextComesAgain}
 use Rattle.lq_base.specs.declared.command.Command.TheVariants as command
 use Rattle.lq_base.specs.declared.dialect.Dialect.{Dialect}
-use Rattle.lq_changelog.specs.ShortTexts.{HasShortTexts}
+use Rattle.lq_changelog.specs.Gathers.{HasShortTexts}
 use Rattle.lq_cli.specs.declared.line.Job.{Job}
 use Rattle.lq_cli.specs.declared.line.Job.TheVariants.{Drill, Generate, RollbackSql, Snapshot, Soak, UndoUnrecorded, UpdateSql, UpdateTo}
-use Rattle.lq_commands.specs.Generates.{generate_text}
 use Rattle.lq_commands.specs.Outputs.{TellsJob}
 use Rattle.lq_commands.specs.Refusals.{Answers}
+use Rattle.lq_commands.specs.Rehearsal.{generate_text}
 use Rattle.lq_commands.specs.Scripts.{printed_script}
 use Rattle.lq_commands.specs.Works.{IsKept, is_finished}
 use Rattle.lq_commands.specs.declared.given.Given.{Given}
-use Rattle.lq_kinds.specs.Dialects.{AreFor}
-use Rattle.lq_kinds.specs.Label.{is_label}
+use Rattle.lq_kinds.specs.AnyChange.{AreFor}
+use Rattle.lq_kinds.specs.ChangeSets.{is_label}
 use Rattle.lq_kinds.specs.declared.change_set.Changelog.{Changelog}
 use Rattle.lq_tell.specs.declared.done.Done.{Done}
 use Rattle.lq_tell.specs.declared.status.Status.{Status}
 use Rattle.lq_tell.specs.declared.status.Status.TheVariants as status
+use Rattle.lq_top.specs.Bytes.{HadRoomOn, IsLeftOn, OnFile, RestsFullOn, SaysFullOn, WorksOn}
 use Rattle.lq_track.specs.Database.{Database}
 use Rattle.lq_turns.specs.declared.call.Call.{Call}
-use Rattle.laws_generate.specs.Again.{TextComesAgain}
-use Rattle.lq_top.specs.Bytes.{HadRoomOn, IsLeftOn, OnFile, RestsFullOn, SaysFullOn, WorksOn}
 pub use Rattle.lq_commands.specs.Jobs.{command_by, is_on_store, is_own, job_reads, job_refusal, job_script, job_tag}
 
 -- Its calls are those of the file's database: a soak has a database of its own, in a drill commands work beside one another, what undo-unrecorded takes back hangs on the journal's last text too, and a snapshot writes what no call does.

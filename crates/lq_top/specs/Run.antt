@@ -1,24 +1,24 @@
 -- What a run of the program does.
 use Rattle.std.specs.Prelude.{Bool, Err, IfSome, List, None, Option, Some, [], false, option_map, true, ℕ, ◌++◌, ◌≡◌, ◌⊎◌}
 use Rattle.lq_base.specs.declared.dialect.Dialect.{Dialect}
-use Rattle.lq_cli.specs.declared.line.Job.{Job}
 use Rattle.lq_base.specs.declared.identity.Identity.{Identity}
 use Rattle.lq_base.specs.declared.run.Why.{Why}
+use Rattle.lq_cli.specs.declared.line.Job.{Job}
 use Rattle.lq_commands.specs.Works.{IsKept, is_finished}
 use Rattle.lq_commands.specs.declared.given.Given.{Given}
 use Rattle.lq_entries.specs.Load.{catalogue_of}
 use Rattle.lq_outside.specs.Crash.{Crashes as DiskCrashes, Settled}
-use Rattle.lq_outside.specs.Sink.{IsPart}
+use Rattle.lq_outside.specs.Forms.{IsPart}
 use Rattle.lq_sources.specs.declared.fault.LoadFault.{LoadFault}
 use Rattle.lq_tell.specs.Lines.{status_lines, warning_lines}
 use Rattle.lq_tell.specs.declared.status.Status.{Status}
 use Rattle.lq_tell.specs.declared.status.Status.TheVariants as status
-use Rattle.lq_track.specs.Database.{Database, SameDatabase}
-use Rattle.lq_turns.specs.Session.{left_by}
-use Rattle.lq_turns.specs.declared.stamp.Stamp.{Stamp}
 use Rattle.lq_top.specs.Asks.{Asks, Files, asked_by, file_status}
 use Rattle.lq_top.specs.Bytes.{Becomes, CrashLeaves, HadRoomOn, Holds, IsLeftOn, OnFile, Opens, RestsFullOn, SaysFullOn, given_at, most_bytes}
 use Rattle.lq_top.specs.Jobs.{JobLeaves, is_on_file, is_own, job_calls, job_reads, job_refusal, job_script, misses}
+use Rattle.lq_track.specs.Database.{Database, SameDatabase}
+use Rattle.lq_turns.specs.Session.{left_by}
+use Rattle.lq_turns.specs.declared.stamp.Stamp.{Stamp}
 
 -- it came to its end, and then perhaps its text could not be written
 abbrev pub is_over : Status → Bool

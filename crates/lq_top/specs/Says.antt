@@ -1,36 +1,32 @@
 -- What a run of the program says, and what it warns of.
 use Rattle.std.specs.List.{flat_map}
 use Rattle.std.specs.Prelude.{Bool, List, None, Option, Some, [], false, length, option_map, true, ℕ, ◌++◌, ◌≡◌}
+use Rattle.laws_generate.specs.Again.{TextComesAgain}
 use Rattle.lq_base.specs.declared.command.Command.TheVariants as command
 use Rattle.lq_base.specs.declared.command.Target.{Target}
 use Rattle.lq_base.specs.declared.identity.Identity.{Identity}
 use Rattle.lq_base.specs.declared.run.Why.{Why}
 use Rattle.lq_cli.specs.Job.{goal_of}
 use Rattle.lq_cli.specs.declared.line.Job.{Job}
-use Rattle.lq_cli.specs.declared.line.Job.TheVariants.{History, RollbackSql, Run, UpdateCount, UpdateSql, UpdateTestingRollback, UpdateTo, Generate, ClearSums}
-use Rattle.lq_commands.specs.Generates.{generate_text}
-use Rattle.lq_commands.specs.Inserts.{synced_in}
+use Rattle.lq_cli.specs.declared.line.Job.TheVariants.{ClearSums, Generate, History, RollbackSql, Run, UpdateCount, UpdateSql, UpdateTestingRollback, UpdateTo}
 use Rattle.lq_commands.specs.Outputs.{at_once_text, back_in}
-use Rattle.lq_commands.specs.Parts.{counted_in}
 use Rattle.lq_commands.specs.Refusals.{own_halt}
-use Rattle.lq_commands.specs.Rehearsal.{rehearsed}
+use Rattle.lq_commands.specs.Rehearsal.{counted_in, generate_text, rehearsed}
 use Rattle.lq_commands.specs.Scripts.{updated_in}
-use Rattle.lq_commands.specs.Tells.{rollback_told, status_by, update_told}
-use Rattle.lq_commands.specs.Works.{is_finished}
+use Rattle.lq_commands.specs.Works.{is_finished, rollback_told, status_by, synced_in, update_told}
 use Rattle.lq_commands.specs.declared.given.Given.{Given}
-use Rattle.lq_outside.specs.Sink.{IsPart}
+use Rattle.lq_outside.specs.Forms.{IsPart}
 use Rattle.lq_report.specs.Output.{cleared_text, history_text, sync_text}
 use Rattle.lq_tell.specs.Lines.{status_lines, warning_line}
 use Rattle.lq_tell.specs.declared.status.Status.{Status}
 use Rattle.lq_tell.specs.declared.status.Status.TheVariants as status
-use Rattle.lq_track.specs.Database.{Database}
-use Rattle.lq_turns.specs.declared.stamp.Stamp.{Stamp}
-use Rattle.lq_turns.specs.declared.stop.Stop.{Stop}
-use Rattle.laws_generate.specs.Again.{TextComesAgain}
 use Rattle.lq_top.specs.Asks.{Asks, Files}
 use Rattle.lq_top.specs.Bytes.{OnFile}
 use Rattle.lq_top.specs.Jobs.{is_on_file}
 use Rattle.lq_top.specs.Run.{given_by, is_over}
+use Rattle.lq_track.specs.Database.{Database}
+use Rattle.lq_turns.specs.declared.stamp.Stamp.{Stamp}
+use Rattle.lq_turns.specs.declared.stop.Stop.{Stop}
 
 -- the status is by what stopped its turns, and this text was written behind what stood in the output
 pub record Says (stop : Option Stop) (text : List ℕ) (s : Status) (before after : Option (List ℕ)) : Type 0 where

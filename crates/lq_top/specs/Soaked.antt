@@ -1,43 +1,41 @@
 -- What a soak prints: its changelog, which is made of a number, runs on a database without anything, and is taken back.
 use Rattle.std.specs.List.{list_all}
-use Rattle.std.specs.Prelude.{Bool, Err, List, None, Ok, Option, Result, Some, [], false, if◌then◌else◌, is_some, length, min, option_map, suc, take, true, zero, ℕ, ◌+◌, ◌++◌, ◌∷◌, ◌≡◌, ◌⊎◌}
+use Rattle.std.specs.Prelude.{Bool, Err, List, None, Ok, Option, Result, Some, [], false, if◌then◌else◌, is_some, length, min, option_map, suc, take, true, zero, ℕ, ◌++◌, ◌+◌, ◌∷◌, ◌≡◌, ◌⊎◌}
 use Rattle.hex.specs.Hex.{encode_lower}
-use Rattle.md5.specs.Md5.{md5}
 use Rattle.lq_base.specs.declared.command.Command.{Command}
 use Rattle.lq_base.specs.declared.command.Command.TheVariants as command
 use Rattle.lq_base.specs.declared.command.Target.TheVariants.{Count}
 use Rattle.lq_base.specs.declared.dialect.Dialect.{Dialect}
+use Rattle.lq_changelog.specs.Gathers.{changelog as changelog_in}
 use Rattle.lq_cli.specs.declared.line.Job.{Job}
 use Rattle.lq_cli.specs.declared.line.Job.TheVariants.{Soak}
-use Rattle.lq_changelog.specs.Changelog.{changelog as changelog_in}
-use Rattle.lq_commands.specs.Inserts.{synced_in}
 use Rattle.lq_commands.specs.Outputs.{TellsText, back_in}
 use Rattle.lq_commands.specs.Refusals.{refusal}
 use Rattle.lq_commands.specs.Scripts.{script, updated_in}
-use Rattle.lq_commands.specs.Tells.{status_by}
+use Rattle.lq_commands.specs.Works.{status_by, synced_in}
 use Rattle.lq_commands.specs.declared.given.Given.{Given}
 use Rattle.lq_entries.specs.Log.{entries_in}
 use Rattle.lq_kinds.specs.declared.change_set.Changelog.{Changelog}
 use Rattle.lq_model.specs.Catalogue.{Catalogue, no_objects, table_of}
-use Rattle.lq_outside.specs.Folder.{held_in}
-use Rattle.lq_outside.specs.Sink.{IsPart}
+use Rattle.lq_outside.specs.Forms.{IsPart, held_in}
 use Rattle.lq_report.specs.Output.{soak_text}
 use Rattle.lq_report.specs.declared.soak.Soaked.{Soaked}
 use Rattle.lq_run.specs.Stands.{entries_of}
-use Rattle.lq_sources.specs.Answers.{IsTold, Source}
+use Rattle.lq_sources.specs.Faults.{IsTold, Source}
 use Rattle.lq_store.specs.Calls.{is_of_texts}
 use Rattle.lq_store.specs.Journal.{Entry}
 use Rattle.lq_tell.specs.SoakLog.{soak_changelog, soak_path, table_name}
 use Rattle.lq_tell.specs.declared.done.Done.{Done}
 use Rattle.lq_tell.specs.declared.status.Status.{Status}
 use Rattle.lq_tell.specs.declared.status.Status.TheVariants as status
+use Rattle.lq_top.specs.Bytes.{Becomes, Holds, in_use, most_bytes}
+use Rattle.lq_top.specs.Kinds.{IsOfFiles}
 use Rattle.lq_track.specs.Database.{Database}
 use Rattle.lq_track.specs.Lock.{free}
 use Rattle.lq_turns.specs.Session.{Session, all_called, left_by, session_on}
 use Rattle.lq_turns.specs.declared.stamp.Stamp.{Stamp}
 use Rattle.lq_turns.specs.declared.stop.Stop.{Stop}
-use Rattle.lq_top.specs.Bytes.{Becomes, Holds, in_use, most_bytes}
-use Rattle.lq_top.specs.Kinds.{IsOfFiles}
+use Rattle.md5.specs.Md5.{md5}
 
 -- a database without anything
 abbrev pub empty : Database

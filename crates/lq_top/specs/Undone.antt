@@ -5,25 +5,25 @@ use Rattle.lq_base.specs.declared.identity.Identity.{Identity}
 use Rattle.lq_cli.specs.declared.line.Job.TheVariants.{UndoUnrecorded}
 use Rattle.lq_commands.specs.Refusals.{Answers}
 use Rattle.lq_commands.specs.Works.{IsKept, is_finished}
-use Rattle.lq_db.specs.Last.{last_text}
+use Rattle.lq_db.specs.Db.{last_text}
 use Rattle.lq_entries.specs.Log.{entries_in}
 use Rattle.lq_expr.specs.declared.options.Options.{Options}
 use Rattle.lq_kinds.specs.declared.change_set.Changelog.{Changelog}
-use Rattle.lq_mending.specs.Refusing.{back_refused}
+use Rattle.lq_mending.specs.Comes.{back_refused}
 use Rattle.lq_mending.specs.Undoes.{Standing, first_of, undo_script, unrecorded}
 use Rattle.lq_outside.specs.Crash.{Crashes as DiskCrashes, Settled}
 use Rattle.lq_report.specs.Output.{undone_text}
 use Rattle.lq_tell.specs.declared.done.Done.{Done}
 use Rattle.lq_tell.specs.declared.status.Status.{Status}
 use Rattle.lq_tell.specs.declared.status.Status.TheVariants as status
+use Rattle.lq_top.specs.Asks.{Asks, Files}
+use Rattle.lq_top.specs.Bytes.{Becomes, CrashesOn, HadRoomOn, IsLeftOn, OnFile, Opens, RestsFullOn, SaysFullOn, WorksOn, most_bytes}
+use Rattle.lq_top.specs.Run.{EndsBy, is_over}
 use Rattle.lq_track.specs.Database.{Database}
 use Rattle.lq_turns.specs.Session.{left_by}
 use Rattle.lq_turns.specs.declared.call.Call.{Call}
 use Rattle.lq_turns.specs.declared.stop.Refusal.{Refusal}
 use Rattle.lq_undoing.specs.Undid.{TellsUndone, undo_refusal}
-use Rattle.lq_top.specs.Asks.{Asks, Files}
-use Rattle.lq_top.specs.Bytes.{Becomes, CrashesOn, HadRoomOn, IsLeftOn, OnFile, Opens, RestsFullOn, SaysFullOn, WorksOn, most_bytes}
-use Rattle.lq_top.specs.Run.{EndsBy, is_over}
 
 -- the last text of a file's journal
 abbrev pub last_on : Dialect → Option (List ℕ) → Option (List ℕ)

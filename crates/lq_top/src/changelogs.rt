@@ -1,13 +1,13 @@
 ghost use Rattle.std.specs.List.{All};
 ghost use Rattle.std.specs.Prelude.{◌≡◌, ◌≤◌, Err, IfOk, IfSome};
 ghost use Rattle.lq_base.specs.declared.dialect.Dialect.{Dialect as AnyDialect};
-ghost use Rattle.lq_changelog.specs.ShortTexts.{HasShortTexts};
-ghost use Rattle.lq_commands.specs.Parts.{part_for};
-ghost use Rattle.lq_kinds.specs.Dialects.{AreFor};
-ghost use Rattle.lq_outside.specs.Count.{Rose};
-ghost use Rattle.lq_sources.specs.Answers.{Finds};
+ghost use Rattle.lq_changelog.specs.Gathers.{HasShortTexts};
+ghost use Rattle.lq_commands.specs.Rehearsal.{part_for};
+ghost use Rattle.lq_kinds.specs.AnyChange.{AreFor};
+ghost use Rattle.lq_outside.specs.Forms.{Rose};
+ghost use Rattle.lq_sources.specs.Faults.{Finds};
 ghost use Rattle.lq_sources.specs.declared.fault.LoadFault.TheVariants as load;
-ghost use Rattle.lq_top.specs.Loads.{file_status, loaded, no_changelog};
+ghost use Rattle.lq_top.specs.Drills.{file_status, loaded, no_changelog};
 
 use lq_base::{Dialect, Items, OnFail, Text};
 use lq_changelog::load;

@@ -8,10 +8,10 @@ ghost use Rattle.lq_commands.specs.declared.given.Given.{Given};
 ghost use Rattle.lq_db.specs.Db.{disk_in};
 ghost use Rattle.lq_generate.specs.Faults.{fault_at};
 ghost use Rattle.lq_generate.specs.Generated.{generated_text};
-ghost use Rattle.lq_kinds.specs.Label.{is_label};
+ghost use Rattle.lq_kinds.specs.ChangeSets.{is_label};
 ghost use Rattle.laws_generate.specs.Again.{TextComesAgain};
 ghost use Rattle.lq_tell.specs.declared.status.Status.TheVariants as status;
-ghost use Rattle.lq_top.specs.Generates.{IsLoadedFrom, IsWellWritten, state_in};
+ghost use Rattle.lq_top.specs.Bytes.{IsLoadedFrom, IsWellWritten, state_in};
 ghost use Rattle.lq_top.specs.Worked.{WorkedOn};
 ghost use Rattle.lq_track.specs.Database.{users_of};
 

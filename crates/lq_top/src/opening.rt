@@ -1,16 +1,15 @@
 ghost use Rattle.std.specs.List.{All};
 ghost use Rattle.std.specs.Prelude.{◌≡◌, ◌≤◌, IfSome, Ok, true};
-ghost use Rattle.lq_base.specs.Character.{char_count};
-ghost use Rattle.lq_changelog.specs.ShortTexts.{HasShortTexts};
-ghost use Rattle.lq_commands.specs.Reading.{ReadOnce};
-ghost use Rattle.lq_commands.specs.Stamp.{stamp_of};
+ghost use Rattle.lq_base.specs.Number.{char_count};
+ghost use Rattle.lq_changelog.specs.Gathers.{HasShortTexts};
+ghost use Rattle.lq_commands.specs.Stamp.{ReadOnce, stamp_of};
 ghost use Rattle.lq_commands.specs.Works.{IsReady};
 ghost use Rattle.lq_db.specs.Db.{IsDb, IsNew, disk_in, engine_in, state};
 ghost use Rattle.lq_entries.specs.Load.{catalogue_of};
-ghost use Rattle.lq_kinds.specs.Dialects.{AreFor};
+ghost use Rattle.lq_kinds.specs.AnyChange.{AreFor};
 ghost use Rattle.lq_store.specs.Executor.{kept};
 ghost use Rattle.lq_top.specs.Bytes.{given_at, load_status, most_bytes};
-ghost use Rattle.lq_top.specs.Clock.{ReadAtMostOnce};
+ghost use Rattle.lq_top.specs.Kinds.{ReadAtMostOnce};
 ghost use Rattle.lq_top.specs.Jobs.{is_on_store, job_tag};
 ghost use Rattle.lq_top.specs.Worked.{WorkedOn};
 

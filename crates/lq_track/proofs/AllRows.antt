@@ -8,10 +8,9 @@ use Rattle.lq_base.specs.declared.name.Name.{Name}
 use Rattle.lq_base.specs.declared.reason.Reason.{Reason}
 use Rattle.lq_base.specs.declared.reason.Reason.TheVariants.{Missing, Reserved, WrongKind}
 use Rattle.lq_base.specs.declared.value.Value.{Value}
-use Rattle.lq_model.specs.Catalogue.{Catalogue, Table, table_of}
-use Rattle.lq_model.specs.Names.{is_in}
-use Rattle.lq_model.specs.Query.{Source, answer, answer_from, lacks_column, no_source, source_of}
-use Rattle.lq_model.specs.Reasons.{unless}
+use Rattle.lq_model.specs.Catalogue.{Catalogue, Table, table_of, is_in}
+use Rattle.lq_model.specs.Views.{Source, answer, answer_from, lacks_column, no_source, source_of}
+use Rattle.lq_model.specs.Plan.{unless}
 use Rattle.lq_model.specs.Truth.{takes}
 use Rattle.lq_model.specs.declared.caller.By.TheVariants.{Program}
 use Rattle.lq_model.specs.declared.column.Column.{Column}

@@ -3,8 +3,7 @@ use Rattle.std.proofs.Common.{ℕ, List, [], ◌∷◌, None, Option, Some, drop
 use Rattle.lq_base.specs.declared.tracking.Exec.{Exec}
 use Rattle.lq_base.specs.declared.value.Value.{Value}
 use Rattle.lq_base.specs.declared.value.Value.TheVariants.{Int, Text, Moment}
-use Rattle.lq_track.specs.Database.{exec_in, order_in, row_in, text_in}
-use Rattle.lq_track.specs.RowParts.{details_in, joined, run_in}
+use Rattle.lq_track.specs.Database.{exec_in, order_in, row_in, text_in, details_in, joined, run_in}
 use Rattle.lq_track.specs.declared.row_reading.Details.{Details}
 use Rattle.lq_track.specs.declared.row_reading.Run.{Run}
 

@@ -1,25 +1,30 @@
 -- What the tracking tables of a catalogue hold: the rows in run order, and the lock.
 use Rattle.std.specs.List.{list_all, list_any}
-use Rattle.std.specs.Prelude.{◌≡◌, ℕ, ℤ, pos, negsuc, nat_eq, nat_lt, Bool, true, false, not, is_none, is_some, if◌then◌else◌, ◌&&◌, ◌||◌, List, [], ◌∷◌, map, Option, Some, None, option_map, option_and_then}
-use Rattle.lq_base.specs.Name.{is_named}
-use Rattle.lq_base.specs.Tracking.{exec_text}
+use Rattle.std.specs.Prelude.{Bool, Err, List, None, Ok, Option, Result, Some, [], codes, encode_utf8_all, false, if◌then◌else◌, is_none, is_some, map, nat_eq, nat_lt, negsuc, not, option_and_then, option_map, pos, take, true, ℕ, ℤ, ◌&&◌, ◌||◌, ◌∷◌, ◌≡◌}
+use Rattle.std.specs.Str.{chars}
+use Rattle.lq_base.specs.Name.{exec_text, is_named}
+use Rattle.lq_base.specs.Number.{last_digits}
 use Rattle.lq_base.specs.declared.dialect.Dialect.{Dialect}
 use Rattle.lq_base.specs.declared.identity.Identity.{Identity}
 use Rattle.lq_base.specs.declared.tracking.Exec.{Exec}
-use Rattle.lq_base.specs.declared.tracking.Exec.TheVariants.{Executed, Reran, MarkRan}
+use Rattle.lq_base.specs.declared.tracking.Exec.TheVariants.{Executed, MarkRan, Reran}
 use Rattle.lq_base.specs.declared.tracking.Lock.{Lock}
 use Rattle.lq_base.specs.declared.tracking.Tracked.{Tracked}
 use Rattle.lq_base.specs.declared.value.Value.{Value}
-use Rattle.lq_base.specs.declared.value.Value.TheVariants.{Null, Int, Text, Bool as Truth, Moment}
-use Rattle.lq_model.specs.Catalogue.{Catalogue, Table, table_of, without_table}
+use Rattle.lq_base.specs.declared.value.Value.TheVariants.{Bool as Truth, Int, Moment, Null, Text}
+use Rattle.lq_model.specs.Catalogue.{Catalogue, Table, is_empty, same_names, table_of, without_table}
 use Rattle.lq_model.specs.Kinds.{equal_kinds}
-use Rattle.lq_model.specs.Names.{is_empty, same_names}
 use Rattle.lq_model.specs.Sound.{IsSound}
 use Rattle.lq_model.specs.declared.column.Column.{Column}
 use Rattle.lq_model.specs.declared.column.ColumnDef.{ColumnDef}
 use Rattle.lq_model.specs.declared.constraint.Key.{Key}
-use Rattle.lq_track.specs.Lock.{lock_table, lock_column, lock_order, lock_key, free}
-use Rattle.lq_track.specs.Log.{log_table, log_column, log_order, identity_of}
+use Rattle.lq_track.specs.Lock.{free, lock_column, lock_key, lock_order, lock_table}
+use Rattle.lq_track.specs.Log.{identity_of, log_column, log_order, log_table}
+use Rattle.lq_track.specs.declared.fault.TrackFault.{TrackFault}
+use Rattle.lq_track.specs.declared.fault.TrackFault.TheVariants.{NotTables, OutOfMemory}
+use Rattle.lq_track.specs.declared.row.Ran.{Ran}
+use Rattle.lq_track.specs.declared.row_reading.Details.{Details}
+use Rattle.lq_track.specs.declared.row_reading.Run.{Run}
 
 -- a column is there as it is made
 abbrev pub is_made : ColumnDef → Column → Bool
@@ -183,3 +188,88 @@ pub record SameDatabase (a b : Database) : Type 0 where
   pub users : a.users ≡ b.users
   pub rows : a.rows ≡ b.rows
   pub lock : a.lock ≡ b.lock
+
+-- How what reads the tracking tables answers.
+
+-- what there is, NotTables exactly where there is nothing, or want of memory
+abbrev pub Gives : {A : Type 0} → Option A → Result A TrackFault → Type 0
+Gives meant (Ok a) = meant ≡ Some a
+Gives meant (Err NotTables) = meant ≡ None
+Gives meant (Err OutOfMemory) = Unit {0}
+
+-- the table is there and passes a test
+abbrev pub passes : (Table → Bool) → Option Table → Bool
+passes test None = false
+passes test (Some it) = test it
+
+-- The row of a changeset that was run or marked.
+
+-- the first 255 characters
+abbrev pub cut : List ℕ → List ℕ
+cut text = encode_utf8_all (take 255 (chars text))
+
+abbrev pub row_of : Ran → Tracked
+row_of ran = record {
+  id = ran.identity.now.id;
+  author = ran.identity.now.author;
+  filename = ran.identity.now.file;
+  date = pos ran.reading;
+  order = ran.order;
+  exec = ran.exec;
+  md5sum = Some ran.checksum.now;
+  description = cut ran.description.now;
+  comments = cut ran.comments.now;
+  tag = ran.tag.now;
+  tool = codes "profile-1";
+  contexts = cut ran.contexts.now;
+  labels = cut ran.labels.now;
+  deployment = last_digits 10 ran.reading;
+}
+
+-- A row of the table of rows in two parts, as it is read.
+
+-- the first six values: whose the row is, and how it ran
+unfoldable pub run_in : List Value → Option Run
+run_in (Text id ∷ Text author ∷ Text filename ∷ Moment date ∷ Int order ∷ Text exec ∷ []) =
+    option_and_then (λ order. option_map (λ exec. record {
+      id = id;
+      author = author;
+      filename = filename;
+      date = date;
+      order = order;
+      exec = exec;
+    }) (exec_in exec)) (order_in order)
+run_in _ = None
+
+-- the others
+unfoldable pub details_in : List Value → Option Details
+details_in (md5sum ∷ Text description ∷ Text comments ∷ tag ∷ Text tool ∷ Text contexts ∷ Text labels ∷ Text deployment ∷ []) =
+    option_and_then (λ md5sum. option_map (λ tag. record {
+      md5sum = md5sum;
+      description = description;
+      comments = comments;
+      tag = tag;
+      tool = tool;
+      contexts = contexts;
+      labels = labels;
+      deployment = deployment;
+    }) (text_in tag)) (text_in md5sum)
+details_in _ = None
+
+abbrev pub joined : Run → Details → Tracked
+joined run details = record {
+  id = run.id;
+  author = run.author;
+  filename = run.filename;
+  date = run.date;
+  order = run.order;
+  exec = run.exec;
+  md5sum = details.md5sum;
+  description = details.description;
+  comments = details.comments;
+  tag = details.tag;
+  tool = details.tool;
+  contexts = details.contexts;
+  labels = details.labels;
+  deployment = details.deployment;
+}

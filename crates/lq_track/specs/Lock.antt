@@ -1,16 +1,35 @@
--- The table DATABASECHANGELOGLOCK: its columns, its key, and its one row.
-use Rattle.std.specs.Prelude.{ℕ, ℤ, true, false, pos, List, [], ◌∷◌, Some, None, codes}
+-- A column as a tracking table is made with it.
+use Rattle.std.specs.Prelude.{List, None, Option, Some, [], codes, false, pos, true, ℕ, ℤ, ◌∷◌}
+use Rattle.lq_base.specs.Moment.{moment_text}
 use Rattle.lq_base.specs.declared.dialect.Dialect.{Dialect}
-use Rattle.lq_base.specs.declared.dialect.Dialect.TheVariants.{Postgresql, Mysql}
-use Rattle.lq_base.specs.declared.kind.Kind.TheVariants.{Int, Boolean, Moment, Text}
+use Rattle.lq_base.specs.declared.dialect.Dialect.TheVariants.{Mysql, Postgresql}
+use Rattle.lq_base.specs.declared.kind.Kind.{Kind}
+use Rattle.lq_base.specs.declared.kind.Kind.TheVariants.{Boolean, Int, Moment, Text}
 use Rattle.lq_base.specs.declared.literal.Literal.{Literal}
 use Rattle.lq_base.specs.declared.literal.Literal.TheVariants as literal
 use Rattle.lq_base.specs.declared.tracking.Lock.{Lock}
 use Rattle.lq_model.specs.declared.column.ColumnDef.{ColumnDef}
 use Rattle.lq_model.specs.declared.constraint.Key.{Key}
-use Rattle.lq_track.specs.Columns.{not_null, nullable, text_or_null, moment_or_null}
 use Rattle.lq_track.specs.declared.lock_column.LockColumn.{LockColumn}
-use Rattle.lq_track.specs.declared.lock_column.LockColumn.TheVariants.{Id, Locked, LockGranted, LockedBy}
+use Rattle.lq_track.specs.declared.lock_column.LockColumn.TheVariants.{Id, LockGranted, Locked, LockedBy}
+
+abbrev pub not_null : List ℕ → Kind → ColumnDef
+not_null name kind = record { name = name; kind = kind; nullable = false; default = None; numbered = false }
+
+abbrev pub nullable : List ℕ → Kind → ColumnDef
+nullable name kind = record { name = name; kind = kind; nullable = true; default = None; numbered = false }
+
+-- the literal of a text that may be missing
+abbrev pub text_or_null : Option (List ℕ) → Literal
+text_or_null None = literal.Null
+text_or_null (Some text) = literal.Text text
+
+-- the literal of a moment that may be missing
+abbrev pub moment_or_null : Option ℤ → Literal
+moment_or_null None = literal.Null
+moment_or_null (Some ms) = literal.Text (moment_text ms)
+
+-- The table DATABASECHANGELOGLOCK: its columns, its key, and its one row.
 
 unfoldable pub lock_table : List ℕ
 lock_table = codes "DATABASECHANGELOGLOCK"

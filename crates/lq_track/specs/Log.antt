@@ -1,16 +1,18 @@
--- The table DATABASECHANGELOG: its columns, and what a row of it holds in each.
-use Rattle.std.specs.Prelude.{ℕ, pos, List, [], ◌∷◌, codes}
-use Rattle.lq_base.specs.Tracking.{exec_text}
+-- The two tracking tables.
+use Rattle.std.specs.Prelude.{List, [], codes, pos, ℕ, ◌∷◌}
+use Rattle.lq_base.specs.Moment.{moment_text}
+use Rattle.lq_base.specs.Name.{exec_text}
 use Rattle.lq_base.specs.declared.identity.Identity.{Identity}
-use Rattle.lq_base.specs.declared.kind.Kind.TheVariants.{Varchar, Moment, Int}
+use Rattle.lq_base.specs.declared.kind.Kind.TheVariants.{Int, Moment, Varchar}
 use Rattle.lq_base.specs.declared.literal.Literal.{Literal}
 use Rattle.lq_base.specs.declared.literal.Literal.TheVariants as literal
 use Rattle.lq_base.specs.declared.tracking.Tracked.{Tracked}
 use Rattle.lq_model.specs.declared.column.ColumnDef.{ColumnDef}
-use Rattle.lq_track.specs.Columns.{not_null, nullable, text_or_null}
-use Rattle.lq_base.specs.Moment.{moment_text}
+use Rattle.lq_track.specs.Lock.{not_null, nullable, text_or_null}
 use Rattle.lq_track.specs.declared.log_column.LogColumn.{LogColumn}
-use Rattle.lq_track.specs.declared.log_column.LogColumn.TheVariants.{Id, Author, Filename, DateExecuted, OrderExecuted, ExecType, Md5Sum, Description, Comments, Tag, Liquibase, Contexts, Labels, DeploymentId}
+use Rattle.lq_track.specs.declared.log_column.LogColumn.TheVariants.{Author, Comments, Contexts, DateExecuted, DeploymentId, Description, ExecType, Filename, Id, Labels, Liquibase, Md5Sum, OrderExecuted, Tag}
+
+-- The table DATABASECHANGELOG: its columns, and what a row of it holds in each.
 
 unfoldable pub log_table : List ℕ
 log_table = codes "DATABASECHANGELOG"

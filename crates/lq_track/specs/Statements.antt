@@ -1,19 +1,29 @@
 -- The statements of the tracking tables.
-use Rattle.std.specs.Prelude.{ℕ, ℤ, pos, List, [], ◌∷◌, map, Some, None}
+use Rattle.std.specs.Option.{option_and_then, option_map}
+use Rattle.std.specs.Prelude.{Err, List, None, Ok, Option, Result, Some, [], if◌then◌else◌, is_some, map, pos, ℕ, ℤ, ◌∷◌}
 use Rattle.lq_base.specs.declared.dialect.Dialect.{Dialect}
 use Rattle.lq_base.specs.declared.identity.Identity.{Identity}
 use Rattle.lq_base.specs.declared.literal.Literal.{Literal}
 use Rattle.lq_base.specs.declared.literal.Literal.TheVariants as literal
+use Rattle.lq_base.specs.declared.reason.Reason.{Reason}
 use Rattle.lq_base.specs.declared.tracking.Lock.{Lock}
 use Rattle.lq_base.specs.declared.tracking.Tracked.{Tracked}
+use Rattle.lq_base.specs.declared.value.Value.{Value}
+use Rattle.lq_model.specs.Catalogue.{Catalogue, table_of}
+use Rattle.lq_model.specs.Views.{answer}
+use Rattle.lq_model.specs.declared.caller.By.TheVariants.{Program}
+use Rattle.lq_model.specs.declared.query.Answered.{Answered}
+use Rattle.lq_model.specs.declared.query.Query.{Query}
+use Rattle.lq_model.specs.declared.query.Wanted.TheVariants as wanted
 use Rattle.lq_model.specs.declared.statement.Statement.{Statement}
-use Rattle.lq_model.specs.declared.statement.Statement.TheVariants.{CreateTable, Insert, Update, Delete}
+use Rattle.lq_model.specs.declared.statement.Statement.TheVariants.{CreateTable, Delete, Insert, Update}
 use Rattle.lq_model.specs.declared.test.Op.TheVariants.{Eq}
 use Rattle.lq_model.specs.declared.test.Operand.TheVariants as operand
 use Rattle.lq_model.specs.declared.test.Test.{Test}
-use Rattle.lq_model.specs.declared.test.Test.TheVariants.{Compare, And}
-use Rattle.lq_track.specs.Lock.{lock_table, lock_column, lock_order, lock_name, lock_key, lock_value, free, taken}
-use Rattle.lq_track.specs.Log.{log_table, log_column, log_order, log_name, log_value, log_set, again_order, identity_of}
+use Rattle.lq_model.specs.declared.test.Test.TheVariants.{And, Compare}
+use Rattle.lq_track.specs.Database.{in_run_order, rows_in}
+use Rattle.lq_track.specs.Lock.{free, lock_column, lock_key, lock_name, lock_order, lock_table, lock_value, taken}
+use Rattle.lq_track.specs.Log.{again_order, identity_of, log_column, log_name, log_order, log_set, log_table, log_value}
 use Rattle.lq_track.specs.declared.lock_column.LockColumn.{LockColumn}
 use Rattle.lq_track.specs.declared.lock_column.LockColumn.TheVariants as lock
 use Rattle.lq_track.specs.declared.log_column.LogColumn.{LogColumn}
@@ -86,3 +96,19 @@ lock_freed = lock_set (lock.Locked ∷ lock.LockGranted ∷ lock.LockedBy ∷ []
 -- who holds the lock, and at what statement
 abbrev pub lock_marked : List ℕ → Statement
 lock_marked by = Update lock_table ((lock_name lock.LockedBy, literal.Text by) ∷ []) (Some lock_test)
+
+-- What the table of rows is asked for one changeset's.
+
+abbrev pub rows_query : Identity → Query
+rows_query of = record { wanted = wanted.All; table = log_table; test = Some (row_test of) }
+
+abbrev pub answered_rows : Result Answered Reason → Option (List (List Value))
+answered_rows (Ok answered) = Some answered.rows
+answered_rows (Err reason) = None
+
+-- the rows of the changeset in run order: none where there is no table, and nothing where they cannot be had or read
+abbrev pub rows_asked : Identity → Catalogue → Option (List Tracked)
+rows_asked of c =
+    if is_some (table_of c log_table)
+    then option_map in_run_order (option_and_then rows_in (answered_rows (answer Program (rows_query of) c)))
+    else Some []

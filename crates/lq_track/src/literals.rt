@@ -1,6 +1,6 @@
 ghost use Rattle.std.specs.Prelude.{◌≡◌, IfOk};
 ghost use Rattle.lq_base.specs.declared.literal.Literal.TheVariants as literal;
-ghost use Rattle.lq_track.specs.Columns.{text_or_null};
+ghost use Rattle.lq_track.specs.Lock.{text_or_null};
 ghost use Rattle.lq_base.specs.Moment.{IsMoment, moment_text};
 ghost use Rattle.lq_track.specs.Statements.{holds};
 

@@ -1,10 +1,8 @@
 ghost use Rattle.std.specs.Prelude.{◌≡◌, [], ◌∷◌, map, IfOk, Some};
 ghost use Rattle.lq_base.specs.Name.{is_named};
-ghost use Rattle.lq_model.specs.Catalogue.{table_of};
-ghost use Rattle.lq_model.specs.Names.{same_names};
-ghost use Rattle.lq_track.specs.Database.{is_key, is_lock, lock_in, lock_in_rows, lock_of};
+ghost use Rattle.lq_model.specs.Catalogue.{table_of, same_names};
+ghost use Rattle.lq_track.specs.Database.{is_key, is_lock, lock_in, lock_in_rows, lock_of, Gives, passes};
 ghost use Rattle.lq_track.specs.Lock.{free, lock_column, lock_key, lock_name, lock_order};
-ghost use Rattle.lq_track.specs.Reading.{Gives, passes};
 ghost use Rattle.lq_track.specs.declared.lock_column.LockColumn.TheVariants.{Id};
 
 use crate::fault::TrackFault;

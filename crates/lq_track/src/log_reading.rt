@@ -1,11 +1,10 @@
 ghost use Rattle.std.specs.Prelude.{◌≡◌, map, IfOk};
 ghost use Rattle.lq_model.specs.Catalogue.{table_of};
-ghost use Rattle.lq_track.specs.Asked.{answered_rows, rows_asked, rows_query};
-ghost use Rattle.lq_model.specs.Query.{answer};
+ghost use Rattle.lq_track.specs.Statements.{answered_rows, rows_asked, rows_query};
+ghost use Rattle.lq_model.specs.Views.{answer};
 ghost use Rattle.lq_model.specs.declared.caller.By.TheVariants.{Program};
-ghost use Rattle.lq_track.specs.Database.{is_log, rows_in, rows_of};
+ghost use Rattle.lq_track.specs.Database.{is_log, rows_in, rows_of, Gives, passes};
 ghost use Rattle.lq_track.specs.Log.{log_column, log_order};
-ghost use Rattle.lq_track.specs.Reading.{Gives, passes};
 
 use crate::fault::TrackFault;
 use crate::log_column::LogColumn;

@@ -1,6 +1,6 @@
 ghost use Rattle.std.specs.Prelude.{◌≡◌, ◌≤◌, ◌++◌, IfOk, OnOk, string_bytes};
 ghost use Rattle.lq_base.specs.Number.{last_digits};
-ghost use Rattle.lq_track.specs.Row.{cut, row_of};
+ghost use Rattle.lq_track.specs.Database.{cut, row_of};
 
 use lq_base::{Duplicate, Exec, Identity, NoMemory, Text, Tracked, both};
 use std::alloc::{AllocError, Global};

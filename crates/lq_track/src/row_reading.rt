@@ -1,7 +1,6 @@
 ghost use Rattle.lq_base.specs.Name.{is_named};
 ghost use Rattle.std.specs.Prelude.{◌≡◌, IfOk, drop, option_and_then, option_map, take};
-ghost use Rattle.lq_track.specs.Database.{exec_in, order_in, row_in, text_in};
-ghost use Rattle.lq_track.specs.RowParts.{details_in, joined, run_in};
+ghost use Rattle.lq_track.specs.Database.{exec_in, order_in, row_in, text_in, details_in, joined, run_in};
 
 use crate::stored::text_in;
 use lq_base::{Duplicate, Exec, NoMemory, Text, Tracked, Value, both};

@@ -3,8 +3,7 @@
 ghost use Rattle.std.specs.Prelude.{◌≡◌, IfOk, IfSome};
 ghost use Rattle.lq_model.specs.Catalogue.{table_of};
 ghost use Rattle.lq_model.specs.Kinds.{equal_kinds};
-ghost use Rattle.lq_track.specs.Database.{are_made, has_no_more, is_made, moment_in, text_in};
-ghost use Rattle.lq_track.specs.Reading.{passes};
+ghost use Rattle.lq_track.specs.Database.{are_made, has_no_more, is_made, moment_in, text_in, passes};
 
 use lq_base::{Duplicate, Items, Kind, Name, NoMemory, Text, Value};
 use lq_model::{AskFault, By, Column, ColumnDef, Look, Query, Wanted};

@@ -2,7 +2,7 @@
 use Rattle.std.proofs.Common.{ap, arith}
 use Rattle.std.specs.Prelude.{List, [], false, refl, true, ℕ, ◌++◌, ◌∷◌, ◌≡◌, ◌≢◌}
 use Rattle.lq_base.specs.Kind.{is_blank}
-use Rattle.lq_tree.specs.Blanks.{unless_blank, without_end_blanks, without_front_blanks}
+use Rattle.lq_tree.specs.Given.{unless_blank, without_end_blanks, without_front_blanks}
 
 -- a byte that is neither a space nor a tab
 dark : (b : ℕ) → (b ≡ 32 → ⊥) → (b ≡ 9 → ⊥) → is_blank b ≡ false

@@ -1,7 +1,7 @@
 -- A list of one node at least is read as one item at least.
 use Rattle.std.specs.List.{list_all}
 use Rattle.std.specs.Prelude.{Bool, Err, IfOk, List, Ok, [], false, length, true, ℕ, ◌==◌, ◌∷◌, ◌≡◌}
-use Rattle.lq_tree.specs.Found.{Found, Reads, Taken, and_then, map_found, within}
+use Rattle.lq_tree.specs.Look.{Found, Reads, Taken, and_then, map_found, within}
 use Rattle.lq_tree.specs.Items.{are_some, item_path, items_from}
 use Rattle.lq_tree.specs.declared.node.Node.{Node}
 

@@ -7,7 +7,7 @@ use Rattle.std.specs.Map.{keys_of, lookup_key}
 use Rattle.std.specs.Ordering.{is_lt, ordering_reverse}
 use Rattle.lq_tree.specs.declared.node.Node.{Node, Map as MapNode, the_lemmas}
 use Rattle.lq_tree.specs.Look.{is_among, map_of, IsLeastUnknown}
-use Rattle.lq_tree.specs.Tree.{rises, is_tree, IsTree}
+use Rattle.lq_tree.specs.Json.{rises, is_tree, IsTree}
 use Rattle.lq_tree.proofs.Order.{judged, map_is}
 
 -- whether a key that is below the other is known

@@ -5,10 +5,9 @@ use Rattle.std.specs.Prelude.{Err, IfOk, List, Ok, [], true, ℕ, ◌∷◌, ◌
 use Rattle.std.proofs.lemmas.List.Splits.{length-slice_split}
 use Rattle.lq_base.specs.Name.{is_name}
 use Rattle.lq_base.specs.declared.name.Name.{Name}
-use Rattle.lq_tree.specs.Blanks.{comma_parts, is_comma}
-use Rattle.lq_tree.specs.Found.{Found, Reads}
+use Rattle.lq_tree.specs.Given.{comma_parts, is_comma, part_name, part_names}
+use Rattle.lq_tree.specs.Look.{Found, Reads}
 use Rattle.lq_tree.specs.Items.{are_some}
-use Rattle.lq_tree.specs.Names.{part_name, part_names}
 use Rattle.lq_tree.proofs.ItemsRead.{never_empty}
 
 some_part : (text : List ℕ) → [] ≡ comma_parts text → ⊥

@@ -14,8 +14,7 @@ use Rattle.serde_json.specs.Find.{as_integer}
 use Rattle.serde_json.specs.Read.{number_of, of_json, of_items, of_members, read, max_depth}
 use Rattle.lq_tree.specs.declared.node.Node.{Node, Whole, List as ListNode, Map as MapNode, the_lemmas}
 use Rattle.lq_tree.specs.declared.node.TreeFault.{TreeFault}
-use Rattle.lq_tree.specs.Json.{json_value, tree_of, trees_of, entries_of}
-use Rattle.lq_tree.specs.Tree.{rises, is_tree, IsTree}
+use Rattle.lq_tree.specs.Json.{json_value, tree_of, trees_of, entries_of, rises, is_tree, IsTree}
 
 abbrev pub IsBelow : List ℕ → Members → Type 0
 IsBelow k no_members = Unit {0}

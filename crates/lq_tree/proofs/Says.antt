@@ -6,8 +6,7 @@ use Rattle.std.specs.Str.{bytes_eq}
 use Rattle.lq_base.proofs.KindSpelled.{kind_of-names}
 use Rattle.lq_base.specs.Kind.{is_kind, kind_of}
 use Rattle.lq_base.specs.Name.{is_name, public}
-use Rattle.lq_base.specs.Number.{number_of}
-use Rattle.lq_base.specs.Options.{if_there}
+use Rattle.lq_base.specs.Number.{number_of, if_there}
 use Rattle.lq_base.specs.Spells.{NamesKind}
 use Rattle.lq_base.specs.declared.dialect.Dialect.{Dialect}
 use Rattle.lq_base.specs.declared.dialect.Dialect.TheVariants.{Mysql, Postgresql}
@@ -16,13 +15,10 @@ use Rattle.lq_base.specs.declared.kind.Kind.{Kind}
 use Rattle.lq_base.specs.declared.kind.Kind.TheVariants as kind
 use Rattle.lq_base.specs.declared.literal.Literal.{Literal}
 use Rattle.lq_base.specs.declared.name.Name.{Name}
-use Rattle.lq_tree.specs.Blanks.{comma_parts, without_blanks}
-use Rattle.lq_tree.specs.Found.{Found, Taken, and_then, map_found, or_bad, within}
-use Rattle.lq_tree.specs.Given.{a_kind, a_name, a_text, if_so}
+use Rattle.lq_tree.specs.Given.{comma_parts, without_blanks, a_kind, a_name, a_text, if_so, part_name, part_names, some_names}
+use Rattle.lq_tree.specs.Look.{Found, Taken, and_then, map_found, or_bad, within, list_of, printed_of, text_of, truth_of, value_at}
 use Rattle.lq_tree.specs.Items.{a_column, are_some, at_required_items, column_in, item_path, items_from, only, required_items, some_items_in}
 use Rattle.lq_tree.specs.Keys.{Keys, a_change, a_change_in, at_optional, at_required, at_required_unless, catalogue, fields, is_schema, keys_in, known, map_with, optional, place, required, required_unless, schema_at, schema_key, schema_named, ◌⊛◌}
-use Rattle.lq_tree.specs.Look.{list_of, printed_of, text_of, truth_of, value_at}
-use Rattle.lq_tree.specs.Names.{part_name, part_names, some_names}
 use Rattle.lq_tree.specs.Values.{a_value, at_member, family, is_given, is_moment, member, number_given}
 use Rattle.lq_tree.specs.declared.node.Node.{Node}
 use Rattle.lq_tree.specs.declared.values.GivenValue.{GivenValue}

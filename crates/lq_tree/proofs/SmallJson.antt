@@ -1,7 +1,7 @@
 -- The whole numbers of a JSON text are held by an i64 or a u64, so they have 128 signed bits.
 use Rattle.std.proofs.Common.{◌≡◌, ◌≤◌, ◌<◌, ◌^◌, ◌-◌, ℕ, ℤ, List, ◌∷◌, Bool, true, false, Option, Some, None, option_map, option_and_then, cond, refl, arith, subst, sym, ◌∙◌, Ordering, Less, Equal, Greater, nat_cmp}
 use Rattle.std.proofs.lemmas.Bool.{and_from, and_parts, le-leb, leb-true, ltb-true}
-use Rattle.std.specs.Prelude.{Err, IfOk, IfSome, Ok, if◌then◌else◌, neg_ℤ, pos, suc, zero}
+use Rattle.std.specs.Prelude.{Err, IfOk, IfSome, Ok, if◌then◌else◌, neg_ℤ, pos, suc, zero, drop, length, nat_le, nat_lt, slice_index, ◌&&◌, ◌==◌}
 use Rattle.std.specs.Cmp.Lexicographic.{slice_cmp}
 use Rattle.std.specs.Ordering.{match_ordering}
 use Rattle.std.specs.Str.{is_utf8}
@@ -12,7 +12,6 @@ use Rattle.serde_json.specs.Find.{as_integer}
 use Rattle.serde_json.specs.Read.{float_of, is_integer, max_depth, number_from, number_of, of_items, of_json, of_members, read}
 use Rattle.std.specs.Float.Numeral.{Parts, minus, nearest_float as nearest, numeral_digits as digits_of, scan_numeral as scan}
 use Rattle.std.specs.Float.{binary64, float_is_finite}
-use Rattle.std.specs.Prelude.{drop, length, nat_le, nat_lt, slice_index, ◌&&◌, ◌==◌}
 use Rattle.lq_tree.proofs.Says.{IsSo}
 use Rattle.lq_tree.proofs.Small.{are_small, have_small, is_small, list_is, map_is, null_small, text_small, truth_small, whole_is}
 use Rattle.lq_tree.specs.Given.{is_whole}

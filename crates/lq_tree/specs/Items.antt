@@ -1,11 +1,10 @@
 -- Lists of nodes.
 use Rattle.std.specs.Fmt.{decimal}
 use Rattle.std.specs.List.{list_all}
-use Rattle.std.specs.Prelude.{Bool, Err, List, None, Ok, Option, Some, [], codes, false, if◌then◌else◌, length, not, true, ℕ, ◌&&◌, ◌+◌, ◌++◌, ◌==◌, ◌∷◌}
+use Rattle.std.specs.Prelude.{Bool, Err, List, None, Ok, Option, Some, [], codes, false, if◌then◌else◌, length, not, true, ℕ, ◌&&◌, ◌++◌, ◌+◌, ◌==◌, ◌∷◌}
 use Rattle.lq_base.specs.declared.fault.KindFault.TheVariants.{Bad, Missing}
-use Rattle.lq_tree.specs.Found.{Found, Taken, and_then, map_found, within}
 use Rattle.lq_tree.specs.Keys.{Keys}
-use Rattle.lq_tree.specs.Look.{list_of, map_of, value_at}
+use Rattle.lq_tree.specs.Look.{Found, Taken, and_then, list_of, map_found, map_of, value_at, within}
 use Rattle.lq_tree.specs.declared.node.Node.{Node}
 
 -- the path of an item of the list that stands at a key, counted from 0

@@ -1,13 +1,18 @@
 -- The tree of a JSON text.
-use Rattle.std.specs.Prelude.{ℕ, Bool, false, unwrap_or, List, [], ◌∷◌, Option, Some, None, option_map, option_and_then, if◌then◌else◌, Result, Ok, Err}
+use Rattle.std.specs.Cmp.Lexicographic.{slice_cmp}
+use Rattle.std.specs.List.{list_all}
+use Rattle.std.specs.Map.{keys_of, values_of}
+use Rattle.std.specs.Ordering.{is_lt, nat_cmp}
+use Rattle.std.specs.Prelude.{Bool, Err, IsTrue, List, None, Ok, Option, Result, Some, [], false, if◌then◌else◌, option_and_then, option_map, true, unwrap_or, ℕ, ◌&&◌, ◌∷◌}
 use Rattle.std.specs.Str.{is_utf8}
-use Rattle.serde_json.specs.Data.{Data, null, boolean, number, string, array, object, Items, no_items, item, Members, no_members, member}
+use Rattle.lq_tree.specs.declared.node.Node.{List as ListNode, Map as MapNode, Node, Null, Text, Truth, Whole, fold-Node}
+use Rattle.lq_tree.specs.declared.node.Node.TheOpen.{Node-F}
+use Rattle.lq_tree.specs.declared.node.TreeFault.{TreeFault}
+use Rattle.lq_tree.specs.declared.node.TreeFault.TheVariants.{FloatNumber, NotJson}
+use Rattle.serde_json.specs.Data.{Data, Items, Members, array, boolean, item, member, no_items, no_members, null, number, object, string}
 use Rattle.serde_json.specs.Find.{as_integer}
 use Rattle.serde_json.specs.Read.{read}
 use Rattle.serde_json.specs.Written.{has_float}
-use Rattle.lq_tree.specs.declared.node.Node.{Node, Null, Truth, Whole, Text, List as ListNode, Map as MapNode}
-use Rattle.lq_tree.specs.declared.node.TreeFault.{TreeFault}
-use Rattle.lq_tree.specs.declared.node.TreeFault.TheVariants.{NotJson, FloatNumber}
 
 -- what `serde_json` reads the bytes as: None where they are not UTF-8 or no JSON
 abbrev pub json_value : List ℕ → Option Data
@@ -46,3 +51,23 @@ tree_or_fault None = Err NotJson
 -- what the bytes are read as, were there memory enough
 abbrev pub json_tree : List ℕ → Result Node TreeFault
 json_tree bytes = tree_or_fault (json_value bytes)
+
+-- Trees whose maps are in order.
+
+-- each text is below those after it, by its bytes
+abbrev pub rises : List (List ℕ) → Bool
+rises [] = true
+rises (k ∷ ks) = list_all (λ l. is_lt (slice_cmp nat_cmp k l)) ks && rises ks
+
+-- one level, with each tree inside already judged
+abbrev in_order : Node-F Bool → Bool
+in_order (Node-F.List inside) = list_all (λ b. b) inside
+in_order (Node-F.Map inside) = rises (keys_of inside) && list_all (λ b. b) (values_of inside)
+in_order _ = true
+
+-- each map of the tree, at whatever depth, has each key once, in the order of the keys' bytes
+abbrev pub is_tree : Node → Bool
+is_tree = fold-Node Bool in_order
+
+abbrev pub IsTree : Node → Type 0
+IsTree n = IsTrue (is_tree n)

@@ -6,8 +6,7 @@ use Rattle.lq_base.specs.declared.dialect.Dialect.{Dialect}
 use Rattle.lq_base.specs.declared.dialect.Dialect.TheVariants.{Mysql, Postgresql}
 use Rattle.lq_base.specs.declared.fault.KindFault.TheVariants.{Bad, Missing, Unknown}
 use Rattle.lq_base.specs.declared.name.Name.{Name}
-use Rattle.lq_tree.specs.Found.{Found, Taken, and_then, map_found, within}
-use Rattle.lq_tree.specs.Look.{map_of, text_of, unknown_key, value_at}
+use Rattle.lq_tree.specs.Look.{Found, Taken, and_then, map_found, map_of, text_of, unknown_key, value_at, within}
 use Rattle.lq_tree.specs.declared.node.Node.{Node}
 
 -- what stands at a key that has to be there

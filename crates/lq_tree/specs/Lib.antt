@@ -1,10 +1,6 @@
-pub mod Blanks
-pub mod Found
 pub mod Given
-pub mod Items
-pub mod Json
-pub mod Keys
 pub mod Look
-pub mod Names
-pub mod Tree
+pub mod Keys
+pub mod Items
 pub mod Values
+pub mod Json

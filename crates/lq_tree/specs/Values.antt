@@ -5,10 +5,9 @@ use Rattle.lq_base.specs.Number.{has_digits, number_of}
 use Rattle.lq_base.specs.declared.fault.KindFault.TheVariants.{Bad}
 use Rattle.lq_base.specs.declared.literal.Literal.{Literal}
 use Rattle.lq_base.specs.declared.literal.Literal.TheVariants as literal
-use Rattle.lq_tree.specs.Found.{Found, and_then, map_found, or_bad, within}
 use Rattle.lq_tree.specs.Given.{is_whole}
 use Rattle.lq_tree.specs.Keys.{Keys}
-use Rattle.lq_tree.specs.Look.{printed_of, text_of, truth_of, value_at}
+use Rattle.lq_tree.specs.Look.{Found, and_then, map_found, or_bad, printed_of, text_of, truth_of, value_at, within}
 use Rattle.lq_tree.specs.declared.node.Node.{Node}
 use Rattle.lq_tree.specs.declared.values.GivenValue.{GivenValue}
 use Rattle.lq_tree.specs.declared.values.GivenValue.TheVariants.{Date, Decimal, Text, Truth, Whole}

@@ -1,6 +1,6 @@
 ghost use Rattle.std.specs.Prelude.{◌≡◌, ◌<◌, IfNone, IfOk, IfSome, length, map};
 ghost use Rattle.std.specs.Str.{IsUtf8};
-ghost use Rattle.lq_tree.specs.Blanks.{comma_parts, without_blanks, without_end_blanks, without_front_blanks};
+ghost use Rattle.lq_tree.specs.Given.{comma_parts, without_blanks, without_end_blanks, without_front_blanks};
 
 use std::alloc::{AllocError, Global};
 

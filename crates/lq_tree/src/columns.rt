@@ -1,8 +1,7 @@
 ghost use Rattle.std.specs.Option.{option_copied};
 ghost use Rattle.std.specs.Prelude.{◌≡◌, IfOk, codes, true};
-ghost use Rattle.lq_tree.specs.Found.{Reads, within};
+ghost use Rattle.lq_tree.specs.Look.{Reads, within, map_of, value_at};
 ghost use Rattle.lq_tree.specs.Items.{a_column, are_some, at_required_items, only, size_of};
-ghost use Rattle.lq_tree.specs.Look.{map_of, value_at};
 
 use crate::found::placed;
 use crate::given::Given;

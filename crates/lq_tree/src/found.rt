@@ -1,7 +1,7 @@
 ghost use Rattle.std.specs.Prelude.{◌≡◌, ◌++◌, IfOk, List, [], ℕ};
 ghost use Rattle.lq_base.specs.declared.dialect.Dialect.{Dialect};
 ghost use Rattle.lq_base.specs.declared.fault.KindFault.TheVariants.{Bad, Missing, NotFor, Unknown};
-ghost use Rattle.lq_tree.specs.Found.{Tells, below, placed, placed_list};
+ghost use Rattle.lq_tree.specs.Look.{Tells, below, placed, placed_list};
 
 use lq_base::{Dialect, KindFault, NoMemory, Text};
 use std::alloc::Global;

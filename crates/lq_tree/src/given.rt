@@ -1,5 +1,5 @@
 ghost use Rattle.std.specs.Prelude.{◌≡◌, IfOk, true};
-ghost use Rattle.lq_tree.specs.Found.{Reads};
+ghost use Rattle.lq_tree.specs.Look.{Reads};
 
 use crate::found::bad;
 use crate::node::Node;
@@ -9,7 +9,7 @@ use std::alloc::Global;
 /// What a key takes.
 pub trait Given: Sized {
     ghost use Rattle.std.specs.Prelude.{Bool};
-    ghost use Rattle.lq_tree.specs.Found.{Taken};
+    ghost use Rattle.lq_tree.specs.Look.{Taken};
 
     /// What each node is read as.
     ghost of: { Taken Self };

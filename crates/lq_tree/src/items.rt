@@ -1,9 +1,8 @@
 ghost use Rattle.std.specs.List.{list_all};
 ghost use Rattle.std.specs.Prelude.{◌≡◌, IfOk, true};
-ghost use Rattle.lq_base.specs.Options.{if_there};
-ghost use Rattle.lq_tree.specs.Found.{Reads, within};
+ghost use Rattle.lq_base.specs.Number.{if_there};
+ghost use Rattle.lq_tree.specs.Look.{Reads, within, value_at};
 ghost use Rattle.lq_tree.specs.Items.{are_some, at_optional_items, at_required_items, item_path, items_from};
-ghost use Rattle.lq_tree.specs.Look.{value_at};
 
 use crate::found::{bad_key, missing, placed};
 use crate::node::Node;

@@ -1,10 +1,9 @@
 ghost use Rattle.std.specs.Prelude.{◌≡◌, ◌||◌, Bool, IfOk, Ok, is_some, map, true};
-ghost use Rattle.lq_base.specs.Options.{if_there};
-ghost use Rattle.lq_tree.specs.Found.{Reads, Tells, within};
+ghost use Rattle.lq_base.specs.Number.{if_there};
+ghost use Rattle.lq_tree.specs.Look.{Reads, Tells, within, value_at};
 ghost use Rattle.lq_base.specs.Name.{is_name, is_object};
 ghost use Rattle.lq_base.specs.Name as names;
 ghost use Rattle.lq_tree.specs.Keys.{at_optional, at_required, at_required_unless, catalogue, is_public, is_schema, known, place, public_at, schema_at, schema_named};
-ghost use Rattle.lq_tree.specs.Look.{value_at};
 
 use crate::found::{bad, bad_key, missing, placed, unknown};
 use crate::given::Given;

@@ -4,7 +4,7 @@ ghost use Rattle.std.specs.Option.{option_copied};
 ghost use Rattle.std.specs.Str.{bytes_eq};
 ghost use Rattle.lq_base.specs.Number.{whole_text};
 ghost use Rattle.lq_tree.specs.Look.{map_of, list_of, text_of, whole_of, truth_of, is_null, printed_of, value_at, unknown_key, is_among, IsLeastUnknown, spelled_truth};
-ghost use Rattle.lq_tree.specs.Tree.{IsTree};
+ghost use Rattle.lq_tree.specs.Json.{IsTree};
 
 use crate::node::Node;
 use lq_base::{NoMemory, Text, append_whole};

@@ -1,8 +1,8 @@
 ghost use Rattle.std.specs.Prelude.{◌≡◌, IfOk, map, true};
 ghost use Rattle.std.specs.List.{list_all};
 ghost use Rattle.lq_base.specs.Name.{is_name};
-ghost use Rattle.lq_tree.specs.Found.{Reads};
-ghost use Rattle.lq_tree.specs.Names.{part_name, part_names};
+ghost use Rattle.lq_tree.specs.Look.{Reads};
+ghost use Rattle.lq_tree.specs.Given.{part_name, part_names};
 
 use crate::blanks::{comma_parts, without_blanks};
 use crate::found::bad;
@@ -39,7 +39,7 @@ fn part_names(alloc: Global, parts: &[&str]) -> Result<Items<Name>, KindFault>
 impl Given for Items<Name> {
     ghost use Rattle.lq_base.specs.Name.{is_name};
     ghost use Rattle.lq_tree.specs.Items.{are_some};
-    ghost use Rattle.lq_tree.specs.Names.{some_names};
+    ghost use Rattle.lq_tree.specs.Given.{some_names};
 
     ghost of = { some_names };
 

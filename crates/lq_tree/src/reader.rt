@@ -1,8 +1,7 @@
 ghost use Rattle.std.specs.Prelude.{◌≡◌, IfOk, true};
-ghost use Rattle.lq_base.specs.Options.{if_there};
-ghost use Rattle.lq_tree.specs.Found.{Reads, within};
+ghost use Rattle.lq_base.specs.Number.{if_there};
+ghost use Rattle.lq_tree.specs.Look.{Reads, within, value_at};
 ghost use Rattle.lq_tree.specs.Keys.{at_optional, at_required};
-ghost use Rattle.lq_tree.specs.Look.{value_at};
 
 use crate::found::{missing, placed};
 use crate::node::Node;
@@ -12,7 +11,7 @@ use std::alloc::Global;
 /// What reads nodes with more than the node at hand, such as a dialect.
 pub trait Reader {
     ghost use Rattle.std.specs.Prelude.{Bool};
-    ghost use Rattle.lq_tree.specs.Found.{Taken};
+    ghost use Rattle.lq_tree.specs.Look.{Taken};
 
     /// What it reads.
     type Read: Drop;

@@ -1,7 +1,6 @@
 ghost use Rattle.std.specs.Prelude.{◌≡◌, ◌⊎◌, [], Some, None, Ok, Err, IfOk, IfErr, true, false};
 ghost use Rattle.serde_json.specs.View.{view, items_view, members_view};
-ghost use Rattle.lq_tree.specs.Json.{json_tree, json_value, holds_float, tree_of, trees_of, entries_of};
-ghost use Rattle.lq_tree.specs.Tree.{IsTree};
+ghost use Rattle.lq_tree.specs.Json.{json_tree, json_value, holds_float, tree_of, trees_of, entries_of, IsTree};
 
 use crate::node::{Node, TreeFault};
 use lq_base::{Items, NoMemory, Text};

@@ -1,6 +1,6 @@
 ghost use Rattle.std.specs.Prelude.{◌≡◌, IfOk, true};
-ghost use Rattle.lq_base.specs.Options.{if_there};
-ghost use Rattle.lq_tree.specs.Found.{Reads, or_bad, within};
+ghost use Rattle.lq_base.specs.Number.{if_there};
+ghost use Rattle.lq_tree.specs.Look.{Reads, or_bad, within};
 ghost use Rattle.lq_tree.specs.Values.{a_value, family, is_given, literal_of, member, number_given};
 ghost use Rattle.lq_tree.specs.declared.values.ValueKey.TheVariants as key;
 

@@ -4,13 +4,11 @@ use Rattle.std.specs.Prelude.{List, Some, [], if◌then◌else◌, map, refl, �
 use Rattle.lq_base.specs.declared.dialect.Dialect.{Dialect}
 use Rattle.lq_base.specs.declared.dialect.Dialect.TheVariants.{Mysql, Postgresql}
 use Rattle.lq_base.specs.declared.tracking.Tracked.{Tracked}
-use Rattle.lq_model.specs.Names.{is_empty}
+use Rattle.lq_model.specs.Catalogue.{is_empty}
 use Rattle.lq_track.specs.Database.{Database}
 use Rattle.lq_track.specs.Log.{identity_of}
-use Rattle.lq_turns.specs.AtOnce.{ClearLeaves, ReleaseLeaves, TagLeaves}
-use Rattle.lq_turns.specs.Contents.{contents_of}
-use Rattle.lq_turns.specs.Deed.{tagged, without_sum}
-use Rattle.lq_turns.specs.Laws.{at_rest}
+use Rattle.lq_turns.specs.Laws.{ClearLeaves, ReleaseLeaves, TagLeaves, at_rest}
+use Rattle.lq_turns.specs.Deed.{contents_of, tagged, without_sum}
 use Rattle.lq_turns.specs.Script.{clearing, closing, tag_of}
 use Rattle.lq_turns.specs.Session.{left_by}
 

@@ -9,16 +9,13 @@ use Rattle.lq_base.specs.declared.run.Why.{Why}
 use Rattle.lq_base.specs.declared.tracking.Tracked.{Tracked}
 use Rattle.lq_model.specs.Catalogue.{Catalogue}
 use Rattle.lq_model.specs.Sound.{IsSound}
-use Rattle.lq_model.specs.Step.{step}
+use Rattle.lq_model.specs.Step.{step, commits_itself}
 use Rattle.lq_model.specs.declared.caller.By.TheVariants.{User}
 use Rattle.lq_model.specs.declared.statement.Statement.{Statement}
-use Rattle.lq_turns.specs.Contents.{Contents}
-use Rattle.lq_turns.specs.Deed.{if_accepted, rows_after}
-use Rattle.lq_model.specs.Commits.{commits_itself}
-use Rattle.lq_turns.specs.Goes.{accepted_by, are_accepted, went}
+use Rattle.lq_turns.specs.Deed.{Contents, if_accepted, rows_after}
+use Rattle.lq_turns.specs.Session.{accepted_by, are_accepted, went}
 use Rattle.lq_turns.specs.Rest.{Inside, OfRows, OfSets, Turns, at_turn, between, chosen, if_goes_on, rest, turns_after, turns_calls}
-use Rattle.lq_turns.specs.Rollback.{calls_if_finished, turns_made}
-use Rattle.lq_turns.specs.Script.{calls_of_turn, calls_unless, closing, sets_calls, turn_by}
+use Rattle.lq_turns.specs.Script.{calls_if_finished, turns_made, calls_of_turn, calls_unless, closing, sets_calls, turn_by}
 use Rattle.lq_turns.specs.Set.{IsKept, Meaning, Set}
 use Rattle.lq_turns.specs.Settle.{choice, fill_turn, mark_turn, run_ending, run_turn, settled_as, settled_by}
 use Rattle.lq_turns.specs.declared.call.Call.{Call}

@@ -18,12 +18,10 @@ use Rattle.lq_model.specs.declared.caller.By.TheVariants.{User}
 use Rattle.lq_model.specs.declared.statement.Statement.{Statement}
 use Rattle.lq_track.specs.Database.{has_twin_rows, same_identity}
 use Rattle.lq_track.specs.Log.{identity_of}
-use Rattle.lq_turns.specs.Contents.{Contents}
-use Rattle.lq_turns.specs.Deed.{has_place, is_of, rows_after}
-use Rattle.lq_turns.specs.Effects.{effects}
-use Rattle.lq_turns.specs.First.{UpdateRuns, are_first, holds_unless, if_finished, is_first, keeps_nothing, keeps_nothing_by, run_by, runs_of, runs_unless}
+use Rattle.lq_turns.specs.Deed.{Contents, has_place, is_of, rows_after}
+use Rattle.lq_turns.specs.Set.{effects, Condition, IsKept, Meaning, Set, has_row, row_at}
+use Rattle.lq_turns.specs.Within.{UpdateRuns, are_first, holds_unless, if_finished, is_first, keeps_nothing, keeps_nothing_by, run_by, runs_of, runs_unless}
 use Rattle.lq_turns.specs.Ran.{AreRowsOf, Run, all_effects, effects_of, exec_in}
-use Rattle.lq_turns.specs.Set.{Condition, IsKept, Meaning, Set, has_row, row_at}
 use Rattle.lq_turns.specs.Settle.{is_to_fill, runs_again, all_settled, choice, choice_of, followed, greatest, mark_turn, reacted, row_for, run_ending, run_turn, settle, settled_by, tested, what, what_by}
 use Rattle.lq_turns.specs.declared.choice.Choice.{Choice}
 use Rattle.lq_turns.specs.declared.choice.Choice.TheVariants.{Halts, Marks, Runs, Skips}

@@ -10,14 +10,11 @@ use Rattle.lq_model.proofs.Lists.{all-append, and_left, and_right, or_left, or_r
 use Rattle.lq_model.specs.Script.{if_any}
 use Rattle.lq_model.specs.Sound.{IsSound}
 use Rattle.lq_model.specs.declared.statement.Statement.{Statement}
-use Rattle.lq_turns.specs.Again.{are_twins, is_twin}
-use Rattle.lq_turns.specs.Contents.{Contents, contents_of, with_contents}
-use Rattle.lq_turns.specs.Deed.{contents_after, if_accepted, locked_after}
-use Rattle.lq_turns.specs.Fronts.{FrontsAreTurns, IsFront, IsIdle}
-use Rattle.lq_turns.specs.Goes.{accepted_by, are_accepted}
+use Rattle.lq_turns.specs.Stops.{are_twins, is_twin, FrontsAreTurns, IsFront, IsIdle, all_at, runs_whole}
+use Rattle.lq_turns.specs.Deed.{Contents, contents_of, with_contents, contents_after, if_accepted, locked_after}
+use Rattle.lq_turns.specs.Session.{accepted_by, are_accepted, Session, accepted, all_called, executed_as}
 use Rattle.lq_turns.specs.Script.{calls_of_turn, calls_unless, set_calls, sets_calls, turn_by}
-use Rattle.lq_turns.specs.Session.{Session, accepted, all_called, executed_as}
-use Rattle.lq_turns.specs.Set.{IsKept, Meaning, Set}
+use Rattle.lq_turns.specs.Set.{IsKept, Meaning, Set, not_fresh}
 use Rattle.lq_turns.specs.Settle.{Settled, all_settled, choice, choice_of, did_of, fill_turn, followed, mark_turn, run_turn, settle, settled_as, settled_by, tested, what}
 use Rattle.lq_turns.specs.declared.call.Call.TheVariants.{Begin, Commit, Execute}
 use Rattle.lq_turns.specs.declared.choice.Choice.{Choice}
@@ -31,7 +28,6 @@ use Rattle.lq_turns.specs.declared.stamp.Stamp.{Stamp}
 use Rattle.lq_turns.specs.declared.stop.Stop.{Stop}
 use Rattle.lq_turns.specs.declared.turn.Turn.{Turn}
 use Rattle.lq_turns.specs.Turn.{Ending, Finished, Refused, ending, is_marked, made, made_on, row_calls, statement_calls, turn_calls}
-use Rattle.lq_turns.specs.Stops.{all_at, runs_whole}
 use Rattle.lq_turns.proofs.FirstRuns.{tested_by}
 use Rattle.lq_turns.proofs.GoesOn.{tests_kept}
 use Rattle.lq_turns.proofs.Locked.{all_any, is_other, no_locks}
@@ -39,7 +35,6 @@ use Rattle.lq_turns.proofs.Made.{At, calls_both}
 use Rattle.lq_turns.proofs.Entered.{accepted_is, is_finished}
 use Rattle.lq_turns.proofs.TurnLeft.{twice}
 use Rattle.lq_turns.proofs.Updates.{run_is, settled_is, sound_by, taken_by}
-use Rattle.lq_turns.specs.Effects.{not_fresh}
 
 -- a transaction of some deeds
 

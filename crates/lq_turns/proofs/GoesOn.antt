@@ -15,14 +15,11 @@ use Rattle.lq_model.specs.Catalogue.{Catalogue}
 use Rattle.lq_model.specs.Sound.{IsSound}
 use Rattle.lq_track.specs.Database.{same_identity}
 use Rattle.lq_track.specs.Log.{identity_of}
-use Rattle.lq_turns.specs.Again.{GoesOn, are_twins, has_own_sum, is_twin}
-use Rattle.lq_turns.specs.Contents.{Contents}
-use Rattle.lq_turns.specs.Deed.{has_place, others, renewed, rows_after, theirs}
-use Rattle.lq_turns.specs.Effects.{not_fresh}
+use Rattle.lq_turns.specs.Stops.{GoesOn, are_twins, has_own_sum, is_twin, all_at, is_skip, is_to_run, runs_once}
+use Rattle.lq_turns.specs.Deed.{Contents, has_place, others, renewed, rows_after, theirs}
+use Rattle.lq_turns.specs.Set.{not_fresh, IsKept, Meaning, Set, is_excused, row_at}
 use Rattle.lq_turns.specs.Script.{turn_by}
-use Rattle.lq_turns.specs.Set.{IsKept, Meaning, Set, is_excused, row_at}
 use Rattle.lq_turns.specs.Settle.{Settled, all_settled, choice, choice_of, did_of, exec_of, followed, greatest, has_changed, is_to_fill, mark_turn, nothing_done, recorded, row_for, run_turn, runs_again, settle, settled_as, settled_by, tested, what, what_by}
-use Rattle.lq_turns.specs.Stops.{all_at, is_skip, is_to_run, runs_once}
 use Rattle.lq_turns.specs.declared.choice.Choice.{Choice}
 use Rattle.lq_turns.specs.declared.choice.Choice.TheVariants.{Fills, Halts, Marks, Passes, Runs, Skips}
 use Rattle.lq_turns.specs.declared.choice.What.{What}

@@ -10,14 +10,12 @@ use Rattle.lq_model.proofs.Lists.{all-append, all-append_left, and_left, and_rig
 use Rattle.lq_model.specs.declared.caller.Room.TheVariants.{Ordinary}
 use Rattle.lq_model.specs.declared.statement.Statement.{Statement}
 use Rattle.lq_track.specs.Database.{Database}
-use Rattle.lq_turns.specs.Contents.{Contents, contents_of, with_contents}
-use Rattle.lq_turns.specs.Deed.{contents_after, done, if_accepted, lock_after, locked_after}
-use Rattle.lq_model.specs.Commits.{commits_itself}
+use Rattle.lq_turns.specs.Deed.{Contents, contents_of, with_contents, contents_after, done, if_accepted, lock_after, locked_after}
+use Rattle.lq_model.specs.Step.{commits_itself}
 use Rattle.lq_turns.specs.Jobs.{OnlyReleasesAreEarly, Task, job_of, needs_lock, script_of}
 use Rattle.lq_turns.specs.Laws.{rollback_calls}
-use Rattle.lq_turns.specs.Rollback.{calls_if_finished, rollback_of, rows_kept, rows_undone, turns_made, undo_turns}
+use Rattle.lq_turns.specs.Script.{calls_if_finished, rollback_of, rows_kept, rows_undone, turns_made, undo_turns, calls_of_turn, calls_unless, closing, has_work, if_missing, last_row, opening, rows_to_sync, set_calls, sets_calls, sync_of, tag_of, turn_by, with_lock}
 use Rattle.lq_turns.specs.Schedule.{Holder, Job, Machine, all_moved, has_answered, has_begun, start}
-use Rattle.lq_turns.specs.Script.{calls_of_turn, calls_unless, closing, has_work, if_missing, last_row, opening, rows_to_sync, set_calls, sets_calls, sync_of, tag_of, turn_by, with_lock}
 use Rattle.lq_turns.specs.Serial.{makes_first, IsUnderWay, Stands, open_by, serial, unless_called, unless_open, unless_refused}
 use Rattle.lq_turns.specs.Session.{Session, aborted, all_called, all_executed, closed, executed_as, is_own, session_on, settled_if}
 use Rattle.lq_turns.specs.Set.{Changelog, Meaning, Set}

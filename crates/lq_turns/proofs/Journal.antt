@@ -11,7 +11,7 @@ use Rattle.lq_model.specs.Script.{if_any}
 use Rattle.lq_model.specs.Step.{step}
 use Rattle.lq_track.specs.Database.{Database}
 use Rattle.lq_turns.specs.Deed.{all_done, done, made_of}
-use Rattle.lq_turns.specs.Held.{Agrees, JournalHolds, JournalLeads, StandsFor, StatementsTell, all_fit, entry_deeds, fits, run_made}
+use Rattle.lq_turns.specs.Schedule.{Agrees, JournalHolds, JournalLeads, StandsFor, StatementsTell, all_fit, entry_deeds, fits, run_made}
 use Rattle.lq_turns.specs.declared.call.Call.{Call}
 use Rattle.lq_turns.specs.declared.call.Call.TheVariants.{Abort, Alone, Begin, Commit, Execute}
 use Rattle.lq_turns.specs.declared.deed.Deed.{Deed}

@@ -6,10 +6,9 @@ use Rattle.lq_base.specs.declared.identity.Identity.{Identity}
 use Rattle.lq_base.specs.declared.tracking.Tracked.{Tracked}
 use Rattle.lq_model.proofs.Lists.{and_left, and_right, or_false, or_left, or_right}
 use Rattle.lq_track.specs.Database.{same_identity}
-use Rattle.lq_turns.specs.Again.{are_twins, is_twin}
-use Rattle.lq_turns.specs.Faults.{changed_at, faults_behind}
-use Rattle.lq_turns.specs.Known.{FaultlessAreApart, FaultlessKnows}
-use Rattle.lq_turns.specs.Rollback.{set_of}
+use Rattle.lq_turns.specs.Stops.{are_twins, is_twin}
+use Rattle.lq_turns.specs.Faults.{changed_at, faults_behind, FaultlessAreApart, FaultlessKnows}
+use Rattle.lq_turns.specs.Script.{set_of}
 use Rattle.lq_turns.specs.declared.fault.Fault.{Fault}
 use Rattle.lq_turns.specs.declared.fault.Fault.TheVariants.{Twice}
 use Rattle.lq_turns.specs.Set.{Set, row_at}

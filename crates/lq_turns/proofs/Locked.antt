@@ -11,8 +11,7 @@ use Rattle.lq_model.proofs.Lists.{all-append, all-append_left, and_left, and_rig
 use Rattle.lq_model.specs.Script.{if_any}
 use Rattle.lq_track.specs.Database.{Database}
 use Rattle.lq_track.specs.Lock.{free}
-use Rattle.lq_turns.specs.Contents.{Contents, contents_of, with_contents}
-use Rattle.lq_turns.specs.Deed.{all_done, contents_after, done, if_accepted, lock_after}
+use Rattle.lq_turns.specs.Deed.{Contents, contents_of, with_contents, all_done, contents_after, done, if_accepted, lock_after}
 use Rattle.lq_turns.specs.Script.{closing, if_missing, opening, with_lock}
 use Rattle.lq_turns.specs.Session.{Session, all_called, all_executed, is_own, session_on, settled_if, settled_up}
 use Rattle.lq_turns.specs.declared.call.Call.{Call}

@@ -6,10 +6,8 @@ use Rattle.lq_base.specs.declared.dialect.Dialect.{Dialect}
 use Rattle.lq_base.specs.declared.tracking.Tracked.{Tracked}
 use Rattle.lq_model.specs.Catalogue.{Catalogue}
 use Rattle.lq_track.specs.Database.{Database}
-use Rattle.lq_turns.specs.Contents.{Contents, contents_of, with_contents}
-use Rattle.lq_turns.specs.Deed.{contents_after, done, if_accepted, lock_after, locked_after}
-use Rattle.lq_turns.specs.Goes.{Both, committed_if, went, went_by}
-use Rattle.lq_turns.specs.Session.{Session, aborted, accepted, all_called, all_executed, before, called, closed, executed_as, is_own, settled_if}
+use Rattle.lq_turns.specs.Deed.{Contents, contents_of, with_contents, contents_after, done, if_accepted, lock_after, locked_after}
+use Rattle.lq_turns.specs.Session.{Both, committed_if, went, went_by, Session, aborted, accepted, all_called, all_executed, before, called, closed, executed_as, is_own, settled_if}
 use Rattle.lq_turns.specs.declared.call.Call.{Call}
 use Rattle.lq_turns.specs.declared.call.Call.TheVariants.{Abort, Alone, Begin, Commit, Execute}
 use Rattle.lq_turns.specs.declared.deed.Deed.{Deed}

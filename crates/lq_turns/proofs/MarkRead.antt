@@ -8,7 +8,7 @@ use Rattle.std.specs.List.{list_all, list_any}
 use Rattle.std.specs.Prelude.{Bool, List, None, Option, Some, [], codes, false, get_or, if◌then◌else◌, is_some, length, nat_lt, not, pos, refl, true, ℕ, ◌<◌, ◌==◌, ◌^◌, ◌&&◌, ◌++◌, ◌∷◌, ◌≡◌}
 use Rattle.lq_base.proofs.SpacedLemmas.{decimal_digits}
 use Rattle.lq_base.specs.Number.{is_digits, whole_text}
-use Rattle.lq_base.specs.Tracking.{identity_text}
+use Rattle.lq_base.specs.Name.{identity_text}
 use Rattle.lq_model.proofs.Lists.{and_left, and_right, any_none, or_left, or_right}
 use Rattle.lq_turns.specs.Stops.{BareNamesHaveNoMark, MarksAreRead, at_last_bar, begins_with_zero, behind, counts_behind, is_count, is_mark, is_mark_number, undo_text}
 use Rattle.lq_turns.specs.declared.turn.Turn.{Turn}

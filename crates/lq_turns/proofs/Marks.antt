@@ -12,8 +12,7 @@ use Rattle.lq_model.specs.Step.{run, step}
 use Rattle.lq_model.specs.declared.caller.By.TheVariants.{User}
 use Rattle.lq_model.specs.declared.statement.Statement.{Statement}
 use Rattle.lq_track.specs.Database.{Database}
-use Rattle.lq_turns.specs.Contents.{Contents, contents_of, with_contents}
-use Rattle.lq_turns.specs.Deed.{all_done, contents_after, done, if_accepted, locked_after, rows_after}
+use Rattle.lq_turns.specs.Deed.{Contents, contents_of, with_contents, all_done, contents_after, done, if_accepted, locked_after, rows_after}
 use Rattle.lq_turns.specs.Session.{Session, aborted, all_called, closed, executed_as, is_own, settled_if, settled_up}
 use Rattle.lq_turns.specs.Stops.{Journal, joined}
 use Rattle.lq_turns.specs.declared.call.Call.{Call}

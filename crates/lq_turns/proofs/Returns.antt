@@ -16,16 +16,13 @@ use Rattle.lq_model.specs.declared.caller.Room.TheVariants.{Ordinary}
 use Rattle.lq_model.specs.declared.statement.Statement.{Statement}
 use Rattle.lq_track.specs.Database.{Database, has_twin_rows, same_identity}
 use Rattle.lq_track.specs.Log.{identity_of}
-use Rattle.lq_turns.specs.Contents.{Contents, contents_of}
-use Rattle.lq_turns.specs.Deed.{all_done}
-use Rattle.lq_turns.specs.Fronts.{IsIdle}
+use Rattle.lq_turns.specs.Deed.{Contents, contents_of, all_done}
+use Rattle.lq_turns.specs.Stops.{IsIdle, Journal, joined}
 use Rattle.lq_turns.specs.Laws.{AreKnown, IsAtRest, rollback_calls}
 use Rattle.lq_turns.specs.Ran.{AreRowsOf, IsRowOf, RanSince, Run, all_effects, are_reversible, effects_of, is_reversible}
-use Rattle.lq_turns.specs.Rollback.{calls_if_finished, has_tag, places_until, rollback_of, rows_kept, rows_undone, tagged_place, turns_made, undo_turns}
-use Rattle.lq_turns.specs.Script.{opening, with_lock}
+use Rattle.lq_turns.specs.Script.{calls_if_finished, has_tag, places_until, rollback_of, rows_kept, rows_undone, tagged_place, turns_made, undo_turns, opening, with_lock}
 use Rattle.lq_turns.specs.Session.{Session, all_called, left_by}
 use Rattle.lq_turns.specs.Set.{IsKept, Meaning, Set, has_row}
-use Rattle.lq_turns.specs.Stops.{Journal, joined}
 use Rattle.lq_turns.specs.Trails.{RollbackResumes, is_by_count, rollback_to}
 use Rattle.lq_turns.specs.declared.call.Call.{Call}
 use Rattle.lq_turns.specs.declared.call.Call.TheVariants.{Alone}

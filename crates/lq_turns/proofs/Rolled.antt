@@ -2,9 +2,9 @@
 use Rattle.std.proofs.Common.{subst, sym}
 use Rattle.std.specs.Prelude.{List, [], refl, ℕ, ◌∷◌}
 use Rattle.lq_base.specs.declared.dialect.Dialect.{Dialect}
-use Rattle.lq_turns.specs.Contents.{Contents, contents_of}
+use Rattle.lq_turns.specs.Deed.{Contents, contents_of}
 use Rattle.lq_turns.specs.Laws.{RollbackLeaves}
-use Rattle.lq_turns.specs.Rollback.{all_rolled, calls_if_finished, rolled_as, turns_made}
+use Rattle.lq_turns.specs.Script.{all_rolled, calls_if_finished, rolled_as, turns_made}
 use Rattle.lq_turns.specs.Session.{Session, all_called}
 use Rattle.lq_turns.specs.Settle.{unless_stopped}
 use Rattle.lq_turns.specs.declared.turn.Turn.{Turn}

@@ -12,7 +12,7 @@ use Rattle.lq_model.specs.Catalogue.{Catalogue}
 use Rattle.lq_track.specs.Database.{has_twin_rows, same_identity}
 use Rattle.lq_track.specs.Log.{identity_of}
 use Rattle.lq_turns.specs.Deed.{is_of, tagged}
-use Rattle.lq_turns.specs.First.{RunsOn, TagKeeps}
+use Rattle.lq_turns.specs.Within.{RunsOn, TagKeeps}
 use Rattle.lq_turns.specs.Ran.{AreRowsOf, IsRowOf, Run, all_effects, effects_of}
 use Rattle.lq_turns.specs.Script.{last_row}
 use Rattle.lq_turns.specs.Set.{Meaning}

@@ -14,17 +14,13 @@ use Rattle.lq_model.proofs.Lists.{and_left, and_right, true_false}
 use Rattle.lq_model.specs.Sound.{IsSound}
 use Rattle.lq_track.specs.Database.{Database}
 use Rattle.lq_track.specs.Lock.{free, taken}
-use Rattle.lq_turns.specs.Contents.{Contents, contents_of, with_contents}
-use Rattle.lq_turns.specs.Deed.{all_done, if_accepted, lock_after, rows_after}
-use Rattle.lq_turns.specs.Effects.{not_fresh}
-use Rattle.lq_turns.specs.Laws.{AreRead}
-use Rattle.lq_turns.specs.Rollback.{all_rolled, calls_if_finished, rolled_as, turns_made}
-use Rattle.lq_turns.specs.Script.{calls_of_turn, calls_unless, closing, has_work, if_missing, opening, rows_to_sync, set_calls, sets_calls, sync_of, turn_by, update_calls, with_lock}
+use Rattle.lq_turns.specs.Deed.{Contents, contents_of, with_contents, all_done, if_accepted, lock_after, rows_after}
+use Rattle.lq_turns.specs.Set.{not_fresh, Changelog, IsKept, Meaning, Set}
+use Rattle.lq_turns.specs.Laws.{AreRead, all_inserted, inserted_then, with_rows}
+use Rattle.lq_turns.specs.Script.{all_rolled, calls_if_finished, rolled_as, turns_made, calls_of_turn, calls_unless, closing, has_work, if_missing, opening, rows_to_sync, set_calls, sets_calls, sync_of, turn_by, update_calls, with_lock}
 use Rattle.lq_turns.specs.Session.{Session, all_called, all_executed, is_own, session_on, settled_if}
-use Rattle.lq_turns.specs.Set.{Changelog, IsKept, Meaning, Set}
 use Rattle.lq_turns.specs.Settle.{Settled, all_settled, choice, did_of, fill_turn, followed, is_halt, mark_turn, own_choice, run_ending, run_turn, settle, settled_as, settled_by}
 use Rattle.lq_turns.specs.Stops.{Journal, joined}
-use Rattle.lq_turns.specs.Synced.{all_inserted, inserted_then, with_rows}
 use Rattle.lq_turns.specs.declared.call.Call.{Call}
 use Rattle.lq_turns.specs.declared.call.Call.TheVariants.{Begin, Commit, Execute}
 use Rattle.lq_turns.specs.declared.choice.Choice.{Choice}
@@ -38,8 +34,7 @@ use Rattle.lq_turns.specs.declared.stamp.Stamp.{Stamp}
 use Rattle.lq_turns.specs.declared.stop.Stop.{Stop}
 use Rattle.lq_turns.specs.declared.turn.Turn.{Turn}
 use Rattle.lq_turns.specs.Turn.{Ending, Finished, Refused, contents_in, ending, made, turn_calls}
-use Rattle.lq_turns.specs.First.{holds_unless}
-use Rattle.lq_turns.specs.Within.{IsBetween, RollbackStands, RollbackStops, SyncStops, UpdateFront, UpdateFronts, UpdateStands, UpdateStops, gives_way, is_refused, is_turn_refused, none_gives_way}
+use Rattle.lq_turns.specs.Within.{holds_unless, IsBetween, RollbackStands, RollbackStops, SyncStops, UpdateFront, UpdateFronts, UpdateStands, UpdateStops, gives_way, is_refused, is_turn_refused, none_gives_way}
 use Rattle.lq_turns.proofs.Entered.{is_finished}
 use Rattle.lq_turns.proofs.GoesOn.{onwards, still}
 use Rattle.lq_turns.proofs.Journal.{same_ok}

@@ -8,12 +8,11 @@ use Rattle.lq_base.specs.declared.run.Happened.{Happened}
 use Rattle.lq_base.specs.declared.tracking.Tracked.{Tracked}
 use Rattle.lq_model.proofs.Lists.{and_left, and_right, any-append, or_false, or_left, or_right}
 use Rattle.lq_model.specs.Sound.{IsSound}
-use Rattle.lq_turns.specs.Again.{are_twins, has_own_sum, is_twin}
-use Rattle.lq_turns.specs.Contents.{Contents}
+use Rattle.lq_turns.specs.Stops.{are_twins, has_own_sum, is_twin, all_at, is_skip, runs_once, runs_whole}
+use Rattle.lq_turns.specs.Deed.{Contents}
 use Rattle.lq_turns.specs.Laws.{AreRead}
 use Rattle.lq_turns.specs.Set.{IsKept, Meaning, Set}
 use Rattle.lq_turns.specs.Settle.{all_settled, followed, settle, what}
-use Rattle.lq_turns.specs.Stops.{all_at, is_skip, runs_once, runs_whole}
 use Rattle.lq_turns.specs.declared.choice.What.{What}
 use Rattle.lq_turns.specs.declared.stamp.Stamp.{Stamp}
 use Rattle.lq_turns.specs.declared.stop.Stop.{Stop}

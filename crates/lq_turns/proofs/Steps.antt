@@ -3,12 +3,10 @@ use Rattle.std.proofs.Common.{ap}
 use Rattle.std.specs.Prelude.{Bool, Err, List, Ok, Result, [], refl, ◌++◌, ◌||◌, ◌∷◌, ◌≡◌}
 use Rattle.lq_base.specs.declared.dialect.Dialect.{Dialect}
 use Rattle.lq_base.specs.declared.reason.Reason.{Reason}
-use Rattle.lq_turns.specs.Contents.{Contents}
-use Rattle.lq_turns.specs.Deed.{contents_after}
-use Rattle.lq_turns.specs.Goes.{Both, accepted_by, are_accepted, committed_if, went, went_by}
+use Rattle.lq_turns.specs.Deed.{Contents, contents_after}
+use Rattle.lq_turns.specs.Session.{Both, accepted_by, are_accepted, committed_if, went, went_by, is_own}
 use Rattle.lq_turns.specs.Rest.{GivingUp, Inside, NoMore, Over, Place, Turns, between, if_goes_on, rest, turns_calls}
 use Rattle.lq_turns.specs.Script.{closing}
-use Rattle.lq_turns.specs.Session.{is_own}
 use Rattle.lq_turns.specs.Set.{Meaning}
 use Rattle.lq_turns.specs.declared.call.Call.{Call}
 use Rattle.lq_turns.specs.declared.call.Call.TheVariants.{Abort, Begin, Commit, Execute}

@@ -5,14 +5,11 @@ use Rattle.std.specs.Prelude.{Err, List, Ok, [], map, refl, true, ◌++◌, ◌�
 use Rattle.lq_base.specs.declared.dialect.Dialect.{Dialect}
 use Rattle.lq_base.specs.declared.tracking.Tracked.{Tracked}
 use Rattle.lq_track.specs.Database.{Database}
-use Rattle.lq_turns.specs.Contents.{Contents, contents_of}
-use Rattle.lq_turns.specs.Deed.{if_accepted, rows_after}
-use Rattle.lq_turns.specs.Goes.{committed_if, went, went_by}
-use Rattle.lq_turns.specs.Laws.{IsAtRest}
+use Rattle.lq_turns.specs.Deed.{Contents, contents_of, if_accepted, rows_after}
+use Rattle.lq_turns.specs.Session.{committed_if, went, went_by, all_called, left_by}
+use Rattle.lq_turns.specs.Laws.{IsAtRest, SyncLeaves, all_inserted, inserted_then, synced, with_rows}
 use Rattle.lq_turns.specs.Script.{rows_to_sync, sync_calls, sync_of}
-use Rattle.lq_turns.specs.Session.{all_called, left_by}
 use Rattle.lq_turns.specs.Set.{Changelog}
-use Rattle.lq_turns.specs.Synced.{SyncLeaves, all_inserted, inserted_then, synced, with_rows}
 use Rattle.lq_turns.specs.declared.call.Call.{Call}
 use Rattle.lq_turns.specs.declared.call.Call.TheVariants.{Begin, Commit, Execute}
 use Rattle.lq_turns.specs.declared.deed.Deed.TheVariants.{Rows}

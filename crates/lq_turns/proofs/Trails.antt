@@ -11,10 +11,8 @@ use Rattle.lq_model.specs.Catalogue.{Catalogue}
 use Rattle.lq_model.specs.declared.caller.Room.TheVariants.{Ordinary}
 use Rattle.lq_track.specs.Database.{Database}
 use Rattle.lq_track.specs.Lock.{free}
-use Rattle.lq_turns.specs.Again.{are_twins, has_own_sum}
-use Rattle.lq_turns.specs.Contents.{Contents, contents_of}
-use Rattle.lq_turns.specs.Deed.{all_done}
-use Rattle.lq_turns.specs.Fronts.{IsFront}
+use Rattle.lq_turns.specs.Stops.{are_twins, has_own_sum, IsFront, IsLeft, IsTrail, Journal, joined}
+use Rattle.lq_turns.specs.Deed.{Contents, contents_of, all_done}
 use Rattle.lq_turns.specs.Laws.{AreRead, IsAtRest, rollback_calls}
 use Rattle.lq_turns.specs.Ran.{RanSince}
 use Rattle.lq_turns.specs.Script.{closing, has_work, opening, release_calls, sets_calls, update_calls, with_lock}
@@ -28,7 +26,6 @@ use Rattle.lq_turns.specs.declared.deed.Deed.TheVariants.{Locks}
 use Rattle.lq_turns.specs.declared.deed.OnLock.TheVariants.{Freed}
 use Rattle.lq_turns.specs.declared.stamp.Stamp.{Stamp}
 use Rattle.lq_turns.specs.Settle.{Settled, all_settled, by_own, is_halt, own_choice, tested, updated}
-use Rattle.lq_turns.specs.Stops.{IsLeft, IsTrail, Journal, joined}
 use Rattle.lq_turns.specs.Trails.{ResumedReturns, UpdateResumes}
 use Rattle.lq_turns.proofs.Fronts.{all_fronts}
 use Rattle.lq_turns.proofs.GoesOn.{Same, skips}

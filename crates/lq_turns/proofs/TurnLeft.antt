@@ -11,14 +11,11 @@ use Rattle.lq_model.proofs.KeepsSound.{statement_keeps}
 use Rattle.lq_model.proofs.Lists.{and_left, and_right}
 use Rattle.lq_model.specs.Catalogue.{Catalogue}
 use Rattle.lq_model.specs.Sound.{IsSound}
-use Rattle.lq_model.specs.Statement.{is_statement}
-use Rattle.lq_model.specs.Step.{step}
+use Rattle.lq_model.specs.Step.{is_statement, step, commits_itself}
 use Rattle.lq_model.specs.declared.caller.By.TheVariants.{User}
 use Rattle.lq_model.specs.declared.statement.Statement.{Statement}
-use Rattle.lq_turns.specs.Contents.{Contents}
-use Rattle.lq_turns.specs.Deed.{if_accepted, rows_after}
-use Rattle.lq_model.specs.Commits.{commits_itself}
-use Rattle.lq_turns.specs.Session.{Session, all_called, is_own}
+use Rattle.lq_turns.specs.Deed.{Contents, if_accepted, rows_after}
+use Rattle.lq_turns.specs.Session.{Session, all_called, is_own, Both, committed_if, went, went_by}
 use Rattle.lq_turns.specs.declared.call.Call.{Call}
 use Rattle.lq_turns.specs.declared.call.Call.TheVariants.{Begin, Commit, Execute}
 use Rattle.lq_turns.specs.declared.deed.Deed.TheVariants.{Locks, Rows, Users}
@@ -28,7 +25,6 @@ use Rattle.lq_turns.specs.declared.deed.OnRows.TheVariants.{Cleared, Deleted, Fi
 use Rattle.lq_turns.specs.declared.turn.Turn.{Turn}
 use Rattle.lq_turns.specs.Turn.{Course, Ending, Finished, Stuck, Through, apart, contents_in, course, ending, is_marked, kept, led_by, made, mark, mark_text, refused, row_calls, row_ending, run_on, statement_calls, turn_calls, unmark, up_to_last, within}
 use Rattle.lq_turns.proofs.Made.{At, is_turns, takes, with_users}
-use Rattle.lq_turns.specs.Goes.{Both, committed_if, went, went_by}
 
 abbrev pub twice : Contents → Both
 twice c = (c, c)

@@ -8,14 +8,12 @@ use Rattle.lq_base.specs.declared.reason.Reason.{Reason}
 use Rattle.lq_base.specs.declared.tracking.Lock.{Lock}
 use Rattle.lq_model.proofs.Lists.{any-append, named_itself, or_left, or_right, true_false}
 use Rattle.lq_model.specs.Catalogue.{Catalogue}
-use Rattle.lq_model.specs.Step.{run, step}
+use Rattle.lq_model.specs.Step.{run, step, commits_itself}
 use Rattle.lq_model.specs.declared.caller.By.TheVariants.{User}
 use Rattle.lq_model.specs.declared.statement.Statement.{Statement}
 use Rattle.lq_track.specs.Database.{Database}
 use Rattle.lq_track.specs.Lock.{taken}
-use Rattle.lq_turns.specs.Contents.{Contents, contents_of, with_contents}
-use Rattle.lq_turns.specs.Deed.{contents_after, if_accepted, lock_after, locked_after, rows_after}
-use Rattle.lq_model.specs.Commits.{commits_itself}
+use Rattle.lq_turns.specs.Deed.{Contents, contents_of, with_contents, contents_after, if_accepted, lock_after, locked_after, rows_after}
 use Rattle.lq_turns.specs.Session.{Session, aborted, all_called, closed, is_own, settled_up}
 use Rattle.lq_turns.specs.declared.call.Call.{Call}
 use Rattle.lq_turns.specs.declared.call.Call.TheVariants.{Begin, Commit, Execute}

@@ -17,15 +17,13 @@ use Rattle.lq_model.specs.declared.caller.By.TheVariants.{User}
 use Rattle.lq_model.specs.declared.statement.Statement.{Statement}
 use Rattle.lq_track.specs.Database.{Database, has_twin_rows, same_identity}
 use Rattle.lq_track.specs.Log.{identity_of}
-use Rattle.lq_turns.specs.Contents.{Contents, contents_of}
-use Rattle.lq_turns.specs.Deed.{is_of, others}
-use Rattle.lq_turns.specs.Effects.{all_fresh, effects, inverses, statements_of}
+use Rattle.lq_turns.specs.Deed.{Contents, contents_of, is_of, others}
+use Rattle.lq_turns.specs.Set.{all_fresh, effects, inverses, statements_of, IsKept, Meaning, Set, has_row}
 use Rattle.lq_turns.specs.Laws.{AreKnown, IsAtRest, RollbackRestores, rollback_calls}
 use Rattle.lq_turns.specs.Ran.{AreRowsOf, RanSince, Run, all_effects, are_reversible, effects_of, exec_in, is_reversible}
 use Rattle.lq_turns.specs.Settle.{row_for}
-use Rattle.lq_turns.specs.Set.{IsKept, Meaning, Set, has_row}
 use Rattle.lq_turns.specs.Session.{Session, all_called, left_by}
-use Rattle.lq_turns.specs.Rollback.{calls_if_finished, rollback_of, set_of, turns_made, undo_by, undo_turn, undo_turns}
+use Rattle.lq_turns.specs.Script.{calls_if_finished, rollback_of, set_of, turns_made, undo_by, undo_turn, undo_turns}
 use Rattle.lq_turns.specs.declared.call.Call.{Call}
 use Rattle.lq_turns.specs.declared.deed.OnRows.TheVariants.{Deleted}
 use Rattle.lq_turns.specs.declared.stamp.Stamp.{Stamp}

@@ -9,13 +9,11 @@ use Rattle.lq_model.proofs.Lists.{and_left, and_right, or_left, or_right}
 use Rattle.lq_model.specs.Sound.{IsSound}
 use Rattle.lq_track.specs.Database.{Database, SameDatabase}
 use Rattle.lq_track.specs.Lock.{free}
-use Rattle.lq_turns.specs.Contents.{Contents, contents_of, with_contents}
-use Rattle.lq_turns.specs.Deed.{lock_after}
-use Rattle.lq_turns.specs.Effects.{effects, statements_of}
+use Rattle.lq_turns.specs.Deed.{Contents, contents_of, with_contents, lock_after}
+use Rattle.lq_turns.specs.Set.{effects, statements_of, Changelog, IsKept, Meaning, Set}
 use Rattle.lq_turns.specs.Laws.{AreRead, IsAtRest, UpdateLeaves, at_rest}
 use Rattle.lq_turns.specs.Script.{calls_of_turn, calls_unless, closing, has_work, opening, set_calls, sets_calls, turn_by, update_calls, with_lock}
 use Rattle.lq_turns.specs.Session.{Session, all_called, all_executed, left_by, session_on}
-use Rattle.lq_turns.specs.Set.{Changelog, IsKept, Meaning, Set}
 use Rattle.lq_turns.specs.Settle.{Settled, all_settled, by_own, choice, choice_of, followed, is_halt, mark_turn, own_choice, run_ending, run_turn, settle, settled_as, settled_by, updated, what}
 use Rattle.lq_turns.specs.declared.call.Call.{Call}
 use Rattle.lq_turns.specs.declared.choice.Choice.{Choice}

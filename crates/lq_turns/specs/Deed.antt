@@ -1,4 +1,4 @@
--- The statements of a command: a user's, and the program's own on the tracking tables; and what each makes of a database.
+-- The statements of a command, and what they change of a database.
 use Rattle.std.specs.List.{filter}
 use Rattle.std.specs.Prelude.{Bool, Err, List, None, Ok, Result, Some, [], if◌then◌else◌, length, map, nat_le, nat_lt, not, pos, true, ℕ, ◌++◌, ◌∷◌}
 use Rattle.lq_base.specs.declared.dialect.Dialect.{Dialect}
@@ -6,6 +6,7 @@ use Rattle.lq_base.specs.declared.identity.Identity.{Identity}
 use Rattle.lq_base.specs.declared.reason.Reason.{Reason}
 use Rattle.lq_base.specs.declared.reason.Reason.TheVariants.{TooManyRows, TooWide}
 use Rattle.lq_base.specs.declared.tracking.Tracked.{Tracked}
+use Rattle.lq_model.specs.Catalogue.{Catalogue}
 use Rattle.lq_model.specs.Script.{Made}
 use Rattle.lq_model.specs.Step.{step}
 use Rattle.lq_model.specs.declared.caller.By.TheVariants.{Program, User}
@@ -13,7 +14,6 @@ use Rattle.lq_model.specs.declared.statement.Statement.{Statement}
 use Rattle.lq_track.specs.Database.{Database, same_identity}
 use Rattle.lq_track.specs.Lock.{free, taken}
 use Rattle.lq_track.specs.Log.{identity_of}
-use Rattle.lq_turns.specs.Contents.{Contents, contents_of, with_contents}
 use Rattle.lq_track.specs.Statements.{lock_freed, lock_made, lock_marked, lock_row_made, lock_taken, log_made, row_again, row_deleted, row_inserted, sum_filled, sums_cleared, tag_set}
 use Rattle.lq_turns.specs.declared.deed.Deed.{Deed}
 use Rattle.lq_turns.specs.declared.deed.Deed.TheVariants.{Locks, Rows, Users}
@@ -21,6 +21,21 @@ use Rattle.lq_turns.specs.declared.deed.OnLock.{OnLock}
 use Rattle.lq_turns.specs.declared.deed.OnLock.TheVariants.{Freed, LockMade, LockRowMade, LogMade, Marked, Taken}
 use Rattle.lq_turns.specs.declared.deed.OnRows.{OnRows}
 use Rattle.lq_turns.specs.declared.deed.OnRows.TheVariants.{Cleared, Deleted, Filled, Inserted, Renewed, Tagged}
+
+-- What a turn sees and changes of a database.
+
+-- the users' objects, and the rows in run order
+pub record Contents : Type 0 where
+  pub users : Catalogue
+  pub rows : List Tracked
+
+abbrev pub contents_of : Database → Contents
+contents_of database = record { users = database.users; rows = database.rows }
+
+abbrev pub with_contents : Database → Contents → Database
+with_contents database contents = record database { users = contents.users; rows = contents.rows }
+
+-- The statements of a command: a user's, and the program's own on the tracking tables; and what each makes of a database.
 
 abbrev pub row_statement : OnRows → Statement
 row_statement (Inserted row) = row_inserted row

@@ -1,5 +1,7 @@
 -- The commands of a schedule as its runners take them.
 use Rattle.std.specs.Prelude.{Bool, List, Option, [], false, true, ℕ, ◌≡◌}
+use Rattle.lq_base.specs.declared.command.Command.{Command}
+use Rattle.lq_base.specs.declared.command.Command.TheVariants.{Release, Rollback, Status, Sync, Tag, Update, Validate}
 use Rattle.lq_base.specs.declared.dialect.Dialect.{Dialect}
 use Rattle.lq_base.specs.declared.tracking.Lock.{Lock}
 use Rattle.lq_track.specs.Database.{Database}
@@ -7,11 +9,9 @@ use Rattle.lq_turns.specs.Schedule.{Job, all_moved, start}
 use Rattle.lq_turns.specs.Script.{release_calls, sync_calls, tag_calls, update_calls}
 use Rattle.lq_turns.specs.Serial.{is_early, none_early}
 use Rattle.lq_turns.specs.Set.{Changelog, Meaning}
+use Rattle.lq_turns.specs.Trails.{rollback_to}
 use Rattle.lq_turns.specs.declared.call.Call.{Call}
 use Rattle.lq_turns.specs.declared.stamp.Stamp.{Stamp}
-use Rattle.lq_turns.specs.Trails.{rollback_to}
-use Rattle.lq_base.specs.declared.command.Command.{Command}
-use Rattle.lq_base.specs.declared.command.Command.TheVariants.{Release, Rollback, Status, Sync, Tag, Update, Validate}
 
 abbrev pub needs_lock : Command → Bool
 needs_lock Update = true

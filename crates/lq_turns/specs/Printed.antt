@@ -1,17 +1,31 @@
--- The statements that are printed as SQL: those of each changeset that ran, or that took back a row.
-use Rattle.std.specs.List.{list_any}
-use Rattle.std.specs.Prelude.{Bool, List, None, Some, [], false, if◌then◌else◌, true, ℕ, ◌++◌, ◌∷◌}
+-- What a status lists.
+use Rattle.std.specs.List.{filter_map, list_any}
+use Rattle.std.specs.Prelude.{Bool, List, None, Option, Some, [], false, if◌then◌else◌, true, ℕ, ◌++◌, ◌∷◌}
 use Rattle.lq_base.specs.declared.dialect.Dialect.{Dialect}
 use Rattle.lq_base.specs.declared.identity.Identity.{Identity}
 use Rattle.lq_base.specs.declared.run.Did.{Did}
 use Rattle.lq_base.specs.declared.run.Did.TheVariants as did
+use Rattle.lq_base.specs.declared.tracking.Tracked.{Tracked}
 use Rattle.lq_model.specs.declared.statement.Statement.{Statement}
-use Rattle.lq_turns.specs.Contents.{Contents}
-use Rattle.lq_turns.specs.Effects.{statements_of}
-use Rattle.lq_turns.specs.Set.{Meaning, Set}
-use Rattle.lq_turns.specs.Settle.{Settled, settle}
+use Rattle.lq_turns.specs.Deed.{Contents}
+use Rattle.lq_turns.specs.Set.{Meaning, Set, statements_of}
+use Rattle.lq_turns.specs.Settle.{Settled, settle, what}
 use Rattle.lq_turns.specs.Turn.{Ending, Finished, Refused, ending}
+use Rattle.lq_turns.specs.declared.choice.What.{What}
+use Rattle.lq_turns.specs.declared.choice.What.TheVariants.{Again, Fill, New}
 use Rattle.lq_turns.specs.declared.turn.Turn.{Turn}
+
+abbrev pub if_pending : Identity → Option What → Option Identity
+if_pending of (Some New) = Some of
+if_pending of (Some Again) = Some of
+if_pending of (Some Fill) = None
+if_pending of None = None
+
+-- the selected changesets whose turn on these rows is new or again
+abbrev pub pending : {Key : Type 0} → List (Set Key) → List Tracked → List Identity
+pending xs rows = filter_map (λ x. if_pending x.identity (what x rows)) xs
+
+-- The statements that are printed as SQL: those of each changeset that ran, or that took back a row.
 
 abbrev pub is_run : Did → Bool
 is_run did.Ran = true

@@ -1,19 +1,22 @@
 -- Where a command stands that holds the lock, and the calls that it has still to make.
-use Rattle.std.specs.Prelude.{Bool, List, None, Option, Some, [], false, if◌then◌else◌, not, true, ℕ, ◌++◌, ◌||◌, ◌∷◌}
+use Rattle.std.specs.Prelude.{Bool, List, None, Option, Some, [], false, if◌then◌else◌, not, true, ℕ, ◌++◌, ◌||◌, ◌∷◌, ◌≡◌}
 use Rattle.lq_base.specs.declared.dialect.Dialect.{Dialect}
-use Rattle.lq_turns.specs.Contents.{Contents}
-use Rattle.lq_turns.specs.Goes.{Both, are_accepted, went}
-use Rattle.lq_turns.specs.Rollback.{turns_made}
-use Rattle.lq_turns.specs.Script.{closing, sets_calls, turn_by}
+use Rattle.lq_turns.specs.Deed.{Contents, contents_of}
+use Rattle.lq_turns.specs.Script.{closing, sets_calls, turn_by, turns_made}
+use Rattle.lq_turns.specs.Session.{Both, Session, are_accepted, called, went}
 use Rattle.lq_turns.specs.Set.{Meaning, Set}
 use Rattle.lq_turns.specs.Settle.{choice}
+use Rattle.lq_turns.specs.Turn.{made, turn_calls}
+use Rattle.lq_turns.specs.declared.answer.Answer.{Answer}
+use Rattle.lq_turns.specs.declared.answer.Answer.TheVariants as answer
 use Rattle.lq_turns.specs.declared.call.Call.{Call}
 use Rattle.lq_turns.specs.declared.call.Call.TheVariants.{Abort}
 use Rattle.lq_turns.specs.declared.choice.Choice.{Choice}
 use Rattle.lq_turns.specs.declared.choice.Choice.TheVariants.{Fills, Halts, Marks, Passes, Runs, Skips}
 use Rattle.lq_turns.specs.declared.stamp.Stamp.{Stamp}
+use Rattle.lq_turns.specs.declared.stop.Stop.{Stop}
+use Rattle.lq_turns.specs.declared.stop.Stop.TheVariants.{Halted, Refused}
 use Rattle.lq_turns.specs.declared.turn.Turn.{Turn}
-use Rattle.lq_turns.specs.Turn.{made, turn_calls}
 
 -- the turns to come: those of changesets, or those that take rows back
 pub data Turns (Key : Type 0) : Type 0 where
@@ -74,3 +77,21 @@ module _ {Key : Type 0} (d : Dialect) (m : Meaning Key) (stamp : Stamp) where
   next (OfRows []) c = between NoMore
   next (OfRows (turn ∷ turns)) c = Inside (turn_calls d stamp.who turn) false (OfRows turns)
   next NoMore c = between NoMore
+
+-- What a step of a runner makes, told by its places, and what a command answers at its end.
+
+abbrev pub both_of : Session → Both
+both_of s = (contents_of s.committed, contents_of s.seen)
+
+module _ {Key : Type 0} (d : Dialect) (m : Meaning Key) (stamp : Stamp) where
+  -- the step made the next call of the script
+  pub record Went (p q : Place Key) (s t : Session) : Type 0 where
+    pub call : Call
+    pub next : rest d m stamp p (both_of s) ≡ call ∷ rest d m stamp q (both_of t)
+    pub is : t ≡ called d call s
+
+-- what a command that ran to its end answers, by what stopped its turns
+abbrev pub last_answer : Option Stop → Answer
+last_answer None = answer.Done
+last_answer (Some (Halted of why)) = answer.Halted of why
+last_answer (Some (Refused of refusal)) = answer.Refused of refusal.statement refusal.kept refusal.reason

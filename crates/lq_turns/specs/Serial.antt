@@ -4,11 +4,11 @@ use Rattle.std.specs.Prelude.{Bool, List, None, Ok, Option, Some, [], false, if�
 use Rattle.lq_base.specs.declared.dialect.Dialect.{Dialect}
 use Rattle.lq_base.specs.declared.tracking.Lock.{Lock}
 use Rattle.lq_track.specs.Database.{Database}
-use Rattle.lq_turns.specs.Schedule.{Holder, Job, Machine, all_moved, has_answered, has_begun, moved, start}
 use Rattle.lq_turns.specs.Deed.{all_done}
-use Rattle.lq_turns.specs.declared.call.Call.{Call}
+use Rattle.lq_turns.specs.Schedule.{Holder, Job, Machine, all_moved, has_answered, has_begun, moved, start}
 use Rattle.lq_turns.specs.Session.{all_called, left_by, session_on}
 use Rattle.lq_turns.specs.Stops.{joined}
+use Rattle.lq_turns.specs.declared.call.Call.{Call}
 
 module _ (Answer : Type 0) (locked : Lock → Answer) (busy : ℕ → Answer) (d : Dialect) (jobs : ℕ → Job Answer locked busy) where
   -- commands one after another, each with the script that it takes from the database that the one before left

@@ -1,17 +1,16 @@
 -- A changeset and a changelog, as the commands see them.
-use Rattle.std.specs.List.{find, list_any, starts_with}
-use Rattle.std.specs.Prelude.{Bool, List, Option, Result, codes, eqb, if◌then◌else◌, ℕ, ◌||◌}
-use Rattle.lq_base.specs.Text.{is_text}
+use Rattle.std.specs.List.{find, flat_map, list_any, starts_with}
+use Rattle.std.specs.Prelude.{Bool, Err, List, None, Ok, Option, Result, Some, [], codes, eqb, if◌then◌else◌, option_and_then, option_map, true, ℕ, ◌&&◌, ◌++◌, ◌+◌, ◌||◌, ◌∷◌}
+use Rattle.lq_base.specs.Name.{is_text}
 use Rattle.lq_base.specs.declared.dialect.Dialect.{Dialect}
 use Rattle.lq_base.specs.declared.identity.Identity.{Identity}
 use Rattle.lq_base.specs.declared.reason.Reason.{Reason}
+use Rattle.lq_base.specs.declared.run.OnFail.{OnFail}
 use Rattle.lq_base.specs.declared.tracking.Tracked.{Tracked}
 use Rattle.lq_model.specs.Catalogue.{Catalogue}
 use Rattle.lq_model.specs.Changes.{AreStatements, HaveEffect, TakeBack}
 use Rattle.lq_model.specs.declared.statement.Statement.{Statement}
-use Rattle.lq_turns.specs.Contents.{Contents}
-use Rattle.lq_turns.specs.Deed.{is_of}
-use Rattle.lq_base.specs.declared.run.OnFail.{OnFail}
+use Rattle.lq_turns.specs.Deed.{Contents, is_of}
 
 -- what changes do, told by what they say
 pub record Meaning (Key : Type 0) : Type 0 where
@@ -87,3 +86,40 @@ excuses sum valid = is_text (codes "ANY") valid || is_text sum valid
 -- the changeset's `validCheckSum` has the stored sum
 abbrev pub is_excused : {Key : Type 0} → Set Key → List ℕ → Bool
 is_excused x sum = list_any (excuses sum) x.valid_sums
+
+-- A changeset's changes in order.
+
+module _ {Key : Type 0} (d : Dialect) (m : Meaning Key) where
+  -- each change's effect on what the one before gave, or the first reason
+  abbrev pub effects : List Key → Catalogue → Result Catalogue Reason
+  effects [] c = Ok c
+  effects (x ∷ xs) c = elim (m.effect d x c) [ Ok e ↦ effects xs e | Err reason ↦ Err reason ]
+
+  -- whether each is fresh at its place
+  abbrev pub all_fresh : List Key → Catalogue → Bool
+  all_fresh [] c = true
+  all_fresh (x ∷ xs) c = m.fresh d x c && elim (m.effect d x c) [ Ok e ↦ all_fresh xs e | Err reason ↦ true ]
+
+  -- how many are not
+  abbrev pub not_fresh : List Key → Catalogue → ℕ
+  not_fresh [] c = 0
+  not_fresh (x ∷ xs) c = (if m.fresh d x c then 0 else 1) + elim (m.effect d x c) [ Ok e ↦ not_fresh xs e | Err reason ↦ 0 ]
+
+  abbrev pub statements_of : List Key → List Statement
+  statements_of xs = flat_map (m.gives d) xs
+
+  -- what is generated for each, the last change first, where it is for each
+  abbrev pub inverses : List Key → Option (List Statement)
+  inverses [] = Some []
+  inverses (x ∷ xs) = option_and_then (λ more. option_map (λ first. more ++ first) (m.inverse d x)) (inverses xs)
+
+  -- what takes the changeset back: its rollback block, or else what is generated
+  abbrev pub undoing : Set Key → Option (List Statement)
+  undoing x = elim x.rollback [ Some block ↦ Some (statements_of block) | None ↦ inverses x.changes ]
+
+-- What the trait `Change` promises of its changes, as the laws take it.
+
+-- changes by the trait's members
+abbrev pub meaning : {Key : Type 0} → (Dialect → Key → Bool) → (Dialect → Key → List Statement) → (Dialect → Key → Catalogue → Result Catalogue Reason) → (Dialect → Key → Catalogue → Bool)
+    → (Dialect → Key → Option (List Statement)) → Meaning Key
+meaning is_for gives effect fresh inverse = record { is_for = is_for; gives = gives; effect = effect; fresh = fresh; inverse = inverse }

@@ -1,5 +1,5 @@
 -- What a changeset does at its turn.
-use Rattle.std.specs.Prelude.{Bool, Err, List, None, Ok, Option, Result, Some, [], codes, false, if◌then◌else◌, map, max, not, pos, true, ℕ, ◌&&◌, ◌+◌, ◌++◌, ◌||◌, ◌∷◌}
+use Rattle.std.specs.Prelude.{Bool, Err, List, None, Ok, Option, Result, Some, [], codes, false, if◌then◌else◌, map, max, not, pos, true, ℕ, ◌&&◌, ◌++◌, ◌+◌, ◌||◌, ◌∷◌}
 use Rattle.lq_base.specs.Number.{last_digits}
 use Rattle.lq_base.specs.declared.dialect.Dialect.{Dialect}
 use Rattle.lq_base.specs.declared.identity.Identity.{Identity}
@@ -7,28 +7,26 @@ use Rattle.lq_base.specs.declared.reason.Reason.{Reason}
 use Rattle.lq_base.specs.declared.run.Did.{Did}
 use Rattle.lq_base.specs.declared.run.Did.TheVariants as did
 use Rattle.lq_base.specs.declared.run.Happened.{Happened}
+use Rattle.lq_base.specs.declared.run.OnFail.{OnFail}
+use Rattle.lq_base.specs.declared.run.OnFail.TheVariants.{Continue, Halt, MarkRan, Warn}
 use Rattle.lq_base.specs.declared.run.Why.{Why}
 use Rattle.lq_base.specs.declared.run.Why.TheVariants.{Error, Failed}
 use Rattle.lq_base.specs.declared.tracking.Exec.{Exec}
 use Rattle.lq_base.specs.declared.tracking.Exec.TheVariants as exec
 use Rattle.lq_base.specs.declared.tracking.Tracked.{Tracked}
-use Rattle.lq_track.specs.Row.{cut}
-use Rattle.lq_turns.specs.Contents.{Contents}
-use Rattle.lq_turns.specs.Deed.{filled}
-use Rattle.lq_turns.specs.Effects.{effects, not_fresh, statements_of}
-use Rattle.lq_turns.specs.Set.{Changelog, Condition, Meaning, Set, is_excused, row_at}
-use Rattle.lq_base.specs.declared.run.OnFail.{OnFail}
-use Rattle.lq_base.specs.declared.run.OnFail.TheVariants.{Continue, Halt, MarkRan, Warn}
-use Rattle.lq_turns.specs.declared.deed.OnRows.{OnRows}
-use Rattle.lq_turns.specs.declared.deed.OnRows.TheVariants.{Filled, Inserted, Renewed}
-use Rattle.lq_turns.specs.declared.turn.Turn.{Turn}
+use Rattle.lq_track.specs.Database.{cut}
+use Rattle.lq_turns.specs.Deed.{Contents, filled}
+use Rattle.lq_turns.specs.Set.{Changelog, Condition, Meaning, Set, effects, is_excused, not_fresh, row_at, statements_of}
 use Rattle.lq_turns.specs.Turn.{Ending, Finished, Refused, ending, row_ending}
 use Rattle.lq_turns.specs.declared.choice.Choice.{Choice}
 use Rattle.lq_turns.specs.declared.choice.Choice.TheVariants.{Fills, Halts, Marks, Passes, Runs, Skips}
 use Rattle.lq_turns.specs.declared.choice.What.{What}
 use Rattle.lq_turns.specs.declared.choice.What.TheVariants.{Again, Fill, New}
+use Rattle.lq_turns.specs.declared.deed.OnRows.{OnRows}
+use Rattle.lq_turns.specs.declared.deed.OnRows.TheVariants.{Filled, Inserted, Renewed}
 use Rattle.lq_turns.specs.declared.stop.Stop.{Stop}
 use Rattle.lq_turns.specs.declared.stop.Stop.TheVariants.{Halted, Refused as Stopped}
+use Rattle.lq_turns.specs.declared.turn.Turn.{Turn}
 
 -- the last place in run order, 0 without a row
 abbrev pub greatest : List Tracked → ℕ

@@ -1,19 +1,22 @@
--- Updates that can be run again after a stop, and what a stop may leave.
+-- Commands that can be run again after a stop.
 use Rattle.std.specs.List.{flat_map, list_all, list_any}
-use Rattle.std.specs.Prelude.{Bool, List, None, Ok, Option, Some, [], codes, false, if◌then◌else◌, is_some, not, pos, true, ℕ, ◌<◌, ◌==◌, ◌^◌, ◌&&◌, ◌++◌, ◌||◌, ◌∷◌, ◌≡◌, ◌⊎◌}
+use Rattle.std.specs.Prelude.{Bool, List, None, Ok, Option, Some, [], codes, false, if◌then◌else◌, is_some, not, pos, true, ℕ, ◌&&◌, ◌++◌, ◌<◌, ◌==◌, ◌^◌, ◌||◌, ◌∷◌, ◌≡◌, ◌⊎◌}
+use Rattle.lq_base.specs.Name.{identity_text}
 use Rattle.lq_base.specs.Number.{is_digits, whole_text}
-use Rattle.lq_base.specs.Tracking.{identity_text}
 use Rattle.lq_base.specs.declared.dialect.Dialect.{Dialect}
+use Rattle.lq_base.specs.declared.dialect.Dialect.TheVariants.{Postgresql}
 use Rattle.lq_base.specs.declared.run.Did.{Did}
 use Rattle.lq_base.specs.declared.run.Did.TheVariants as did
 use Rattle.lq_base.specs.declared.tracking.Lock.{Lock}
 use Rattle.lq_base.specs.declared.tracking.Tracked.{Tracked}
-use Rattle.lq_track.specs.Database.{Database}
-use Rattle.lq_turns.specs.Contents.{Contents}
-use Rattle.lq_turns.specs.Deed.{all_done}
-use Rattle.lq_turns.specs.Session.{all_called, session_on}
-use Rattle.lq_turns.specs.Script.{release_calls}
+use Rattle.lq_model.specs.Sound.{IsSound}
+use Rattle.lq_track.specs.Database.{Database, same_identity}
+use Rattle.lq_turns.specs.Deed.{Contents, all_done, contents_of}
+use Rattle.lq_turns.specs.Laws.{AreRead}
+use Rattle.lq_turns.specs.Script.{release_calls, sets_calls}
+use Rattle.lq_turns.specs.Session.{Session, all_called, session_on}
 use Rattle.lq_turns.specs.Set.{Changelog, Meaning, Set}
+use Rattle.lq_turns.specs.Settle.{all_settled, updated, what}
 use Rattle.lq_turns.specs.Turn.{mark_text}
 use Rattle.lq_turns.specs.declared.call.Call.{Call}
 use Rattle.lq_turns.specs.declared.choice.What.{What}
@@ -23,7 +26,8 @@ use Rattle.lq_turns.specs.declared.deed.Deed.TheVariants.{Locks}
 use Rattle.lq_turns.specs.declared.deed.OnLock.TheVariants.{Freed}
 use Rattle.lq_turns.specs.declared.stamp.Stamp.{Stamp}
 use Rattle.lq_turns.specs.declared.turn.Turn.{Turn}
-use Rattle.lq_turns.specs.Settle.{updated, what}
+
+-- Updates that can be run again after a stop, and what a stop may leave.
 
 abbrev pub is_skip : Did → Bool
 is_skip did.Skipped = true
@@ -135,3 +139,49 @@ MarksAreRead = (who : List ℕ) (turn : Turn) (k : ℕ) → 0 < k → k < 2 ^ 64
 -- a name without a bar has no mark
 abbrev pub BareNamesHaveNoMark : Type 0
 BareNamesHaveNoMark = (who : List ℕ) → list_any (λ b. b == 124) who ≡ false → is_mark who ≡ false
+
+-- An update that is run again after it was stopped between two turns.
+
+module _ {Key : Type 0} where
+  -- its own sum is that of its changes, in the present form
+  abbrev pub has_own_sum : Set Key → Bool
+  has_own_sum x = x.is_own_sum x.sum && not (x.is_old_sum x.sum)
+
+  -- both are selected, and have one identity
+  abbrev pub is_twin : Set Key → Set Key → Bool
+  is_twin x y = x.selected && (y.selected && same_identity y.identity x.identity)
+
+  -- two selected changesets have one identity
+  abbrev pub are_twins : List (Set Key) → Bool
+  are_twins [] = false
+  are_twins (x ∷ xs) = list_any (is_twin x) xs || are_twins xs
+
+-- Where some turns of an update were made, none of which stopped it or was skipped, its turns are the rest: run again it leaves what it would have left, and stops where it would have.
+abbrev pub GoesOn : {Key : Type 0} → Meaning Key → Type 0
+GoesOn {Key} m = (d : Dialect) (stamp : Stamp) (xs ys : List (Set Key)) (c : Contents)
+    → IsSound d c.users → AreRead d m xs → list_all has_own_sum xs ≡ true → are_twins (xs ++ ys) ≡ false → all_at runs_once xs c.rows ≡ true
+    → (all_settled d m stamp.reading xs c).stop ≡ None → list_any (λ h. is_skip h.what) (all_settled d m stamp.reading xs c).happened ≡ false
+    → ((all_settled d m stamp.reading (xs ++ ys) (all_settled d m stamp.reading xs c).contents).contents ≡ (all_settled d m stamp.reading (xs ++ ys) c).contents)
+    × ((all_settled d m stamp.reading (xs ++ ys) (all_settled d m stamp.reading xs c).contents).stop ≡ (all_settled d m stamp.reading (xs ++ ys) c).stop)
+
+-- Where a stop may fall in an update whose turns are one transaction each.
+
+-- a session without an open transaction, on these contents
+pub record IsIdle (s : Session) (c : Contents) : Type 0 where
+  pub committed : contents_of s.committed ≡ c
+  pub seen : contents_of s.seen ≡ c
+  pub begun : s.begun ≡ []
+
+-- the entries up to somewhere are those of some whole turns, none of which stops the update
+pub record IsFront {Key : Type 0} (m : Meaning Key) (stamp : Stamp) (xs : List (Set Key)) (c : Contents) (s : Session) (front : Journal) : Type 0 where
+  pub turns : List (Set Key)
+  pub rest : List (Set Key)
+  pub are : xs ≡ turns ++ rest
+  pub goes_on : (all_settled Postgresql m stamp.reading turns c).stop ≡ None
+  pub entries : (all_called Postgresql (sets_calls Postgresql m stamp turns c) s).entries ≡ s.entries ++ front
+
+-- each front of the entries of an update in postgresql, whose changesets that run are one transaction each, is that of some whole turns
+abbrev pub FrontsAreTurns : {Key : Type 0} → Meaning Key → Type 0
+FrontsAreTurns {Key} m = (stamp : Stamp) (xs : List (Set Key)) (c : Contents) (s : Session) (front rest : Journal)
+    → IsIdle s c → IsSound Postgresql c.users → AreRead Postgresql m xs → are_twins xs ≡ false → all_at runs_whole xs c.rows ≡ true
+    → (all_called Postgresql (sets_calls Postgresql m stamp xs c) s).entries ≡ s.entries ++ (front ++ rest) → IsFront m stamp xs c s front

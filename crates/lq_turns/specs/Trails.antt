@@ -1,25 +1,22 @@
 -- Commands that are run again after any number of stops.
 use Rattle.std.specs.List.{list_all}
 use Rattle.std.specs.Prelude.{Bool, List, None, Ok, Some, [], false, length, true, ℕ, ◌≡◌}
+use Rattle.lq_base.specs.declared.command.Target.{Target}
+use Rattle.lq_base.specs.declared.command.Target.TheVariants.{Count, Date, Tag}
 use Rattle.lq_base.specs.declared.dialect.Dialect.{Dialect}
 use Rattle.lq_base.specs.declared.dialect.Dialect.TheVariants.{Postgresql}
 use Rattle.lq_model.specs.Sound.{IsSound}
 use Rattle.lq_track.specs.Database.{Database}
-use Rattle.lq_turns.specs.Again.{are_twins, has_own_sum}
-use Rattle.lq_turns.specs.Contents.{Contents, contents_of}
-use Rattle.lq_turns.specs.Deed.{all_done}
+use Rattle.lq_turns.specs.Deed.{Contents, all_done, contents_of}
 use Rattle.lq_turns.specs.Laws.{AreKnown, AreRead, IsAtRest, rollback_calls}
 use Rattle.lq_turns.specs.Ran.{RanSince, Run, are_reversible}
-use Rattle.lq_turns.specs.Rollback.{rows_kept}
-use Rattle.lq_turns.specs.Script.{update_calls}
+use Rattle.lq_turns.specs.Script.{rows_kept, update_calls}
 use Rattle.lq_turns.specs.Session.{left_by}
 use Rattle.lq_turns.specs.Set.{Changelog, Meaning, Set}
-use Rattle.lq_turns.specs.declared.call.Call.{Call}
-use Rattle.lq_base.specs.declared.command.Target.{Target}
-use Rattle.lq_base.specs.declared.command.Target.TheVariants.{Count, Date, Tag}
-use Rattle.lq_turns.specs.declared.stamp.Stamp.{Stamp}
 use Rattle.lq_turns.specs.Settle.{updated}
-use Rattle.lq_turns.specs.Stops.{IsSteady, IsTrail, Journal, joined}
+use Rattle.lq_turns.specs.Stops.{IsSteady, IsTrail, Journal, are_twins, has_own_sum, joined}
+use Rattle.lq_turns.specs.declared.call.Call.{Call}
+use Rattle.lq_turns.specs.declared.stamp.Stamp.{Stamp}
 
 -- the journals from the empty one to the last, each a stop of the command, under any name, or of release-locks; and the database that the last one gives, whose lock is not held
 pub record IsStopped (start : Database) (command : List ℕ → Database → List Call) (database : Database) : Type 0 where

@@ -1,17 +1,15 @@
 -- A turn: what a changeset, or the undoing of a row, runs; the calls that it makes; and what it leaves.
 use Rattle.std.specs.List.{list_any}
 use Rattle.std.specs.Prelude.{Bool, Err, List, Ok, Result, [], codes, false, if◌then◌else◌, length, not, pos, suc, ℕ, ◌++◌, ◌||◌, ◌∷◌}
+use Rattle.lq_base.specs.Name.{identity_text}
 use Rattle.lq_base.specs.Number.{whole_text}
-use Rattle.lq_base.specs.Tracking.{identity_text}
 use Rattle.lq_base.specs.declared.dialect.Dialect.{Dialect}
 use Rattle.lq_base.specs.declared.reason.Reason.{Reason}
 use Rattle.lq_model.specs.Catalogue.{Catalogue}
-use Rattle.lq_model.specs.Step.{step}
+use Rattle.lq_model.specs.Step.{commits_itself, step}
 use Rattle.lq_model.specs.declared.caller.By.TheVariants.{User}
 use Rattle.lq_model.specs.declared.statement.Statement.{Statement}
-use Rattle.lq_turns.specs.Contents.{Contents}
-use Rattle.lq_turns.specs.Deed.{contents_after, rows_after}
-use Rattle.lq_model.specs.Commits.{commits_itself}
+use Rattle.lq_turns.specs.Deed.{Contents, contents_after, rows_after}
 use Rattle.lq_turns.specs.declared.call.Call.{Call}
 use Rattle.lq_turns.specs.declared.call.Call.TheVariants.{Abort, Begin, Commit, Execute}
 use Rattle.lq_turns.specs.declared.deed.Deed.TheVariants.{Locks, Rows, Users}

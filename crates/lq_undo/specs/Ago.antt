@@ -1,5 +1,5 @@
 -- What was there some changes ago.
-use Rattle.std.specs.Prelude.{ℕ, suc, zero}
+use Rattle.std.specs.Prelude.{suc, zero, ℕ}
 
 -- n changes ago, where each is undone by this function
 abbrev pub ago : {A : Type 0} → (A → A) → ℕ → A → A

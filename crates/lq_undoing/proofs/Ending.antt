@@ -7,12 +7,11 @@ use Rattle.lq_base.specs.declared.identity.Identity.{Identity}
 use Rattle.lq_base.specs.declared.tracking.Tracked.{Tracked}
 use Rattle.lq_commands.specs.Outputs.{TellsText}
 use Rattle.lq_commands.specs.Refusals.{Answers, IsFault, ends}
-use Rattle.lq_commands.specs.Tells.{IfFinished, IsQuiet}
-use Rattle.lq_commands.specs.Works.{IsKept, OnIts, RestsFull, Works, is_finished}
+use Rattle.lq_commands.specs.Works.{IfFinished, IsQuiet, IsKept, OnIts, RestsFull, Works, is_finished}
 use Rattle.lq_expr.specs.declared.options.Options.{Options}
 use Rattle.lq_kinds.specs.declared.any_change.AnyChange.{AnyChange}
 use Rattle.lq_kinds.specs.declared.change_set.Changelog.{Changelog}
-use Rattle.lq_mending.specs.Refusing.{back_refused}
+use Rattle.lq_mending.specs.Comes.{back_refused}
 use Rattle.lq_mending.specs.Undoes.{Answers as AnswersOf, FullBy, LeavesBy, Made, Standing, TellsBy, TellsOf, can_undo, first_of, if_faults, invalid, is_of_calls, refusal, refusal_at, set_marked, sets_in, undo_script, unless_undone, unrecorded}
 use Rattle.lq_mending.specs.declared.outcome.RepairFault.{RepairFault}
 use Rattle.lq_mending.specs.declared.outcome.RepairFault.TheVariants as fault
@@ -22,8 +21,7 @@ use Rattle.lq_report.specs.Output.{undone_text}
 use Rattle.lq_run.specs.Commands.{Leaves}
 use Rattle.lq_run.specs.Crashes.{LeftBehind}
 use Rattle.lq_run.specs.Left.{RestsIn}
-use Rattle.lq_store.specs.Crashes.{Crashes}
-use Rattle.lq_store.specs.State.{State}
+use Rattle.lq_store.specs.Journal.{Crashes, State}
 use Rattle.lq_tell.specs.Texts.{status_done}
 use Rattle.lq_tell.specs.declared.done.Done.{Done}
 use Rattle.lq_tell.specs.declared.status.Status.{Status}

@@ -4,17 +4,15 @@ use Rattle.std.specs.Prelude.{IfOk, List, None, Option, Result, Some, ℕ, ◌�
 use Rattle.lq_base.specs.declared.identity.Identity.{Identity}
 use Rattle.lq_commands.specs.Outputs.{TellsText}
 use Rattle.lq_commands.specs.Refusals.{Answers}
-use Rattle.lq_commands.specs.Tells.{IfFinished, IsQuiet}
-use Rattle.lq_commands.specs.Works.{CrashesIn, IsKept, OnIts, Works}
+use Rattle.lq_commands.specs.Works.{CrashesIn, IfFinished, IsKept, IsQuiet, OnIts, Works}
 use Rattle.lq_expr.specs.declared.options.Options.{Options}
 use Rattle.lq_kinds.specs.declared.change_set.Changelog.{Changelog}
-use Rattle.lq_mending.specs.Refusing.{back_refused}
+use Rattle.lq_mending.specs.Comes.{back_refused}
 use Rattle.lq_mending.specs.Undoes.{Standing, first_of, refusal, undo_script, unrecorded}
 use Rattle.lq_mending.specs.declared.outcome.RepairFault.{RepairFault}
 use Rattle.lq_mending.specs.declared.outcome.RepairFault.TheVariants as fault
 use Rattle.lq_report.specs.Output.{undone_text}
-use Rattle.lq_store.specs.Crashes.{Crashes}
-use Rattle.lq_store.specs.State.{State}
+use Rattle.lq_store.specs.Journal.{Crashes, State}
 use Rattle.lq_tell.specs.declared.done.Done.{Done}
 use Rattle.lq_tell.specs.declared.status.Status.{Status}
 use Rattle.lq_tell.specs.declared.status.Status.TheVariants as status

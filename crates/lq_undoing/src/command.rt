@@ -1,10 +1,9 @@
 ghost use Rattle.std.specs.Prelude.{◌≡◌, ◌≤◌, Err, IfErr, IfOk, None, false, true};
 ghost use Rattle.lq_commands.specs.Outputs.{TellsText};
 ghost use Rattle.lq_commands.specs.Refusals.{ends};
-ghost use Rattle.lq_commands.specs.Tells.{IsQuiet};
-ghost use Rattle.lq_commands.specs.Works.{IsReady};
-ghost use Rattle.lq_kinds.specs.Dialects.{AreFor};
-ghost use Rattle.lq_outside.specs.Count.{Rose};
+ghost use Rattle.lq_commands.specs.Works.{IsQuiet, IsReady};
+ghost use Rattle.lq_kinds.specs.AnyChange.{AreFor};
+ghost use Rattle.lq_outside.specs.Forms.{Rose};
 ghost use Rattle.lq_report.specs.Output.{undone_text};
 ghost use Rattle.lq_tell.specs.Texts.{status_done};
 ghost use Rattle.lq_tell.specs.declared.status.Status.TheVariants as status;

@@ -1,7 +1,5 @@
 pub mod AddUnique
-pub mod AddUniqueLaws
-pub mod DropUnique
-pub mod DropUniqueLaws
-pub mod Drops
 pub mod DropsLaws
 pub mod NamedLaws
+pub mod DropUnique
+pub mod Drops

@@ -3,10 +3,10 @@ use Rattle.std.specs.List.{list_all}
 use Rattle.std.specs.Option.{unwrap_or}
 use Rattle.std.specs.Prelude.{List, None, Option, Some, [], not, true, ◌∷◌, ◌≡◌}
 use Rattle.lq_base.specs.Name.{is_name}
-use Rattle.lq_base.specs.Options.{if_there}
+use Rattle.lq_base.specs.Number.{if_there}
 use Rattle.lq_base.specs.declared.name.Name.{Name}
 use Rattle.lq_model.proofs.Lists.{and_right}
-use Rattle.lq_model.specs.Statement.{is_name_list}
+use Rattle.lq_model.specs.Step.{is_name_list}
 use Rattle.lq_tree.specs.Items.{are_some, is_empty}
 
 pub named : (stated : Option Name) (n : Name) → if_there is_name stated ≡ true → is_name n ≡ true → is_name (unwrap_or stated n) ≡ true

@@ -1,5 +1,5 @@
 ghost use Rattle.std.specs.Prelude.{◌≡◌, IfOk, true};
-ghost use Rattle.lq_tree.specs.Found.{Reads};
+ghost use Rattle.lq_tree.specs.Look.{Reads};
 ghost use Rattle.lq_uniques.specs.AddUnique.{add_unique, is_for, name_of, unique_of};
 ghost use Rattle.lq_uniques.specs.Drops.{drops_unique};
 
@@ -95,8 +95,7 @@ impl AddUniqueConstraint {
 }
 
 impl Change for AddUniqueConstraint {
-    ghost use Rattle.lq_uniques.specs.AddUnique.{canonical_of, effect, gives, inverse, is_for, is_fresh};
-    ghost use Rattle.lq_uniques.specs.AddUniqueLaws.{does, restores, returned, spelled, told};
+    ghost use Rattle.lq_uniques.specs.AddUnique.{canonical_of, effect, gives, inverse, is_for, is_fresh, does, restores, returned, spelled, told};
     ghost use Rattle.lq_uniques.specs.declared.add_unique.AddUniqueConstraint.{AddUniqueConstraint};
 
     ghost Key = { AddUniqueConstraint };

@@ -1,5 +1,5 @@
 ghost use Rattle.std.specs.Prelude.{◌≡◌, IfOk, true};
-ghost use Rattle.lq_tree.specs.Found.{Reads};
+ghost use Rattle.lq_tree.specs.Look.{Reads};
 ghost use Rattle.lq_uniques.specs.DropUnique.{is_for, drop_unique};
 
 use crate::drops::unique_drop;
@@ -49,8 +49,7 @@ impl DropUniqueConstraint {
 }
 
 impl Change for DropUniqueConstraint {
-    ghost use Rattle.lq_uniques.specs.DropUnique.{canonical_of, effect, gives, inverse, is_for, is_fresh};
-    ghost use Rattle.lq_uniques.specs.DropUniqueLaws.{does, restores, returned, spelled, told};
+    ghost use Rattle.lq_uniques.specs.DropUnique.{canonical_of, effect, gives, inverse, is_for, is_fresh, does, restores, returned, spelled, told};
     ghost use Rattle.lq_uniques.specs.declared.drop_unique.DropUniqueConstraint.{DropUniqueConstraint};
 
     ghost Key = { DropUniqueConstraint };

@@ -2,7 +2,7 @@
 use Rattle.std.proofs.Common.{ap, ◌∙◌}
 use Rattle.std.specs.List.{filter}
 use Rattle.std.specs.Prelude.{List, false, if◌then◌else◌, true, ℕ, ◌∷◌, ◌≡◌}
-use Rattle.laws_repair.specs.Mended.{is_named_so}
+use Rattle.laws_repair.specs.Repair.{is_named_so}
 use Rattle.lq_base.specs.declared.tracking.Tracked.{Tracked}
 use Rattle.lq_expr.specs.declared.options.Options.{Options}
 use Rattle.lq_kinds.specs.declared.change_set.ChangeSet.{ChangeSet}

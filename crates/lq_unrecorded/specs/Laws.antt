@@ -1,6 +1,6 @@
 -- What holds of the definitions.
 use Rattle.std.specs.Prelude.{List, Some, suc, true, ℕ, ◌≡◌}
-use Rattle.laws_repair.specs.Mended.{Mark}
+use Rattle.laws_repair.specs.Repair.{Mark}
 use Rattle.lq_base.specs.Kind.{plain_number}
 use Rattle.lq_base.specs.declared.tracking.Lock.{Lock}
 use Rattle.lq_report.specs.declared.mark.Form.{Form}

@@ -1,7 +1,7 @@
 -- What a lock tells of the part of a changeset that a stop left without a row.
 use Rattle.std.specs.List.{before_first, filter}
 use Rattle.std.specs.Prelude.{Bool, List, None, Option, Some, [], false, if◌then◌else◌, nat_le, nat_lt, option_and_then, true, ℕ, ◌&&◌, ◌∷◌}
-use Rattle.laws_repair.specs.Mended.{by_of, is_named_so}
+use Rattle.laws_repair.specs.Repair.{by_of, is_named_so}
 use Rattle.lq_base.specs.declared.tracking.Lock.{Lock}
 use Rattle.lq_base.specs.declared.tracking.Tracked.{Tracked}
 use Rattle.lq_expr.specs.declared.options.Options.{Options}

@@ -1,17 +1,14 @@
-ghost use Rattle.std.specs.List.{filter};
+ghost use Rattle.std.specs.List.{filter, list_all};
 ghost use Rattle.std.specs.Prelude.{◌≡◌, IfOk, IfSome, option_map, true};
-ghost use Rattle.laws_repair.specs.Mended.{is_named_so, marked_set};
-ghost use Rattle.lq_base.specs.Name.{is_named};
-ghost use Rattle.lq_base.specs.Text.{is_text};
-ghost use Rattle.lq_base.specs.Tracking.{identity_text};
+ghost use Rattle.laws_repair.specs.Repair.{is_named_so, marked_set};
+ghost use Rattle.lq_base.specs.Name.{is_named, is_text, identity_text};
 ghost use Rattle.lq_base.specs.declared.dialect.Dialect.{Dialect};
 ghost use Rattle.lq_expr.specs.declared.options.Options.{Options};
-ghost use Rattle.lq_kinds.specs.Dialects.{is_read_for};
+ghost use Rattle.lq_kinds.specs.AnyChange.{is_read_for};
 ghost use Rattle.lq_seen.specs.View.{view, views};
 ghost use Rattle.lq_turns.specs.Deed.{is_of};
 ghost use Rattle.lq_turns.specs.Set.{has_row};
 ghost use Rattle.lq_unrecorded.specs.Part.{named_from};
-ghost use Rattle.std.specs.List.{list_all};
 
 use lq_base::{Identity, NoMemory, Text, Tracked};
 use lq_kinds::ChangeSet;

@@ -1,6 +1,6 @@
 -- What conditions tell: that each holds, that it does not, or the first error.
 use Rattle.std.specs.List.{list_all, list_any}
-use Rattle.std.specs.Prelude.{Bool, Err, List, Ok, Result, [], ◌≡◌, ◌∷◌}
+use Rattle.std.specs.Prelude.{Bool, Err, List, Ok, Result, [], ◌∷◌, ◌≡◌}
 use Rattle.lq_base.specs.declared.reason.Reason.{Reason}
 use Rattle.lq_verdicts.specs.declared.fault.CondFault.{CondFault}
 use Rattle.lq_verdicts.specs.declared.fault.CondFault.TheVariants as fault

@@ -10,10 +10,9 @@ use Rattle.lq_model.specs.SqlText.{QueriesAreSpelled, query_in}
 use Rattle.lq_model.specs.declared.query.Query.{Query}
 use Rattle.lq_tree.proofs.Says.{IsIfThere, IsSo, Takes, anything, change_at, change_so, given, given_at, name_so, optional_so, required_so, start}
 use Rattle.lq_tree.proofs.Small.{is_small, value_small, whole_small}
-use Rattle.lq_tree.specs.Found.{map_found, or_bad, within}
+use Rattle.lq_tree.specs.Look.{map_found, or_bad, within, printed_of, value_at, whole_of}
 use Rattle.lq_tree.specs.Given.{a_name, a_whole, if_so, is_whole}
 use Rattle.lq_tree.specs.Keys.{at_optional, fields, optional, required, ◌⊛◌}
-use Rattle.lq_tree.specs.Look.{printed_of, value_at, whole_of}
 use Rattle.lq_tree.specs.declared.node.Node.{Node}
 use Rattle.lq_views.specs.CreateSequence as create_sequence
 use Rattle.lq_views.specs.CreateView as create_view

@@ -1,15 +1,26 @@
--- Texts that spell a query.
+-- Sequences are PostgreSQL's: their change types are not for MySQL.
 use Rattle.std.specs.Option.{unwrap_or}
-use Rattle.std.specs.Prelude.{Bool, List, None, Option, Some, [], if◌then◌else◌, false, is_some, not, option_and_then, ℕ, ◌&&◌}
+use Rattle.std.specs.Prelude.{Bool, Err, List, None, Ok, Option, Some, [], false, if◌then◌else◌, is_some, not, option_and_then, ℕ, ◌&&◌}
 use Rattle.lq_base.specs.declared.dialect.Dialect.{Dialect}
 use Rattle.lq_base.specs.declared.dialect.Dialect.TheVariants.{Mysql, Postgresql}
+use Rattle.lq_base.specs.declared.fault.KindFault.TheVariants.{NotFor}
 use Rattle.lq_model.specs.SqlText.{query_in}
-use Rattle.lq_model.specs.Statement.{is_pg, is_query}
+use Rattle.lq_model.specs.Step.{is_pg, is_query}
 use Rattle.lq_model.specs.declared.query.Query.{Query}
 use Rattle.lq_model.specs.declared.query.Wanted.TheVariants as wanted
-use Rattle.lq_tree.specs.Found.{Taken, or_bad}
-use Rattle.lq_tree.specs.Look.{printed_of}
-use Rattle.lq_views.specs.DialectText.{DialectText}
+use Rattle.lq_tree.specs.Look.{Found, Taken, or_bad, printed_of}
+
+abbrev pub for_postgresql : Dialect → Found (Unit {0})
+for_postgresql Postgresql = Ok tt
+for_postgresql Mysql = Err (NotFor [] Mysql)
+
+-- A text in the SQL of a dialect.
+
+pub record DialectText : Type 0 where
+  pub dialect : Dialect
+  pub text : List ℕ
+
+-- Texts that spell a query.
 
 -- a scalar that is printed as a text of the dialect which spells a query
 abbrev pub spelling : Dialect → List ℕ → Option DialectText

@@ -6,11 +6,10 @@ use Rattle.lq_base.specs.declared.dialect.Dialect.{Dialect}
 use Rattle.lq_base.specs.declared.dialect.Dialect.TheVariants.{Mysql, Postgresql}
 use Rattle.lq_model.proofs.Lists.{and_left, and_right}
 use Rattle.lq_model.specs.SqlText.{query_in}
-use Rattle.lq_model.specs.Statement.{is_query}
+use Rattle.lq_model.specs.Step.{is_query}
 use Rattle.lq_model.specs.declared.query.Query.{Query}
 use Rattle.lq_model.specs.declared.query.Wanted.TheVariants as wanted
-use Rattle.lq_views.specs.DialectText.{DialectText}
-use Rattle.lq_views.specs.QueryText.{is_some_query, query_of, same_dialect, spells_query}
+use Rattle.lq_views.specs.QueryText.{DialectText, is_some_query, query_of, same_dialect, spells_query}
 
 -- the dialect of a text is told
 told_same : (d e : Dialect) → same_dialect d e ≡ true → d ≡ e

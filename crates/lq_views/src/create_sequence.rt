@@ -1,8 +1,8 @@
 ghost use Rattle.std.specs.Option.{option_map};
 ghost use Rattle.std.specs.Prelude.{◌≡◌, IfOk, Some, true};
-ghost use Rattle.lq_model.specs.Canon.{number};
-ghost use Rattle.lq_model.specs.Written.{field_value};
-ghost use Rattle.lq_tree.specs.Found.{Reads};
+ghost use Rattle.lq_model.specs.Changes.{number};
+ghost use Rattle.lq_model.specs.TakesBack.{field_value};
+ghost use Rattle.lq_tree.specs.Look.{Reads};
 ghost use Rattle.lq_views.specs.CreateSequence.{create_sequence, is_for};
 
 use crate::sequences::for_postgresql;
@@ -87,8 +87,7 @@ impl CreateSequence {
 }
 
 impl Change for CreateSequence {
-    ghost use Rattle.lq_views.specs.CreateSequence.{canonical_of, effect, gives, inverse, is_for, is_fresh};
-    ghost use Rattle.lq_views.specs.CreateSequenceLaws.{does, restores, returned, spelled, told};
+    ghost use Rattle.lq_views.specs.CreateSequence.{canonical_of, effect, gives, inverse, is_for, is_fresh, does, restores, returned, spelled, told};
     ghost use Rattle.lq_views.specs.declared.create_sequence.CreateSequence.{CreateSequence};
 
     ghost Key = { CreateSequence };

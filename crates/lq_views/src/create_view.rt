@@ -1,5 +1,5 @@
 ghost use Rattle.std.specs.Prelude.{◌≡◌, IfOk, true};
-ghost use Rattle.lq_tree.specs.Found.{Reads};
+ghost use Rattle.lq_tree.specs.Look.{Reads};
 ghost use Rattle.lq_views.specs.CreateView.{create_view, is_for};
 
 use crate::query_text::QueryText;
@@ -54,8 +54,7 @@ impl CreateView {
 }
 
 impl Change for CreateView {
-    ghost use Rattle.lq_views.specs.CreateView.{canonical_of, effect, gives, inverse, is_for, is_fresh};
-    ghost use Rattle.lq_views.specs.CreateViewLaws.{does, restores, returned, spelled, told};
+    ghost use Rattle.lq_views.specs.CreateView.{canonical_of, effect, gives, inverse, is_for, is_fresh, does, restores, returned, spelled, told};
     ghost use Rattle.lq_views.specs.declared.create_view.CreateView.{CreateView};
 
     ghost Key = { CreateView };

@@ -1,5 +1,5 @@
 ghost use Rattle.std.specs.Prelude.{◌≡◌, IfOk, true};
-ghost use Rattle.lq_tree.specs.Found.{Reads};
+ghost use Rattle.lq_tree.specs.Look.{Reads};
 ghost use Rattle.lq_views.specs.DropSequence.{drop_sequence, is_for};
 
 use crate::sequences::for_postgresql;
@@ -38,8 +38,7 @@ impl DropSequence {
 }
 
 impl Change for DropSequence {
-    ghost use Rattle.lq_views.specs.DropSequence.{canonical_of, effect, gives, inverse, is_for, is_fresh};
-    ghost use Rattle.lq_views.specs.DropSequenceLaws.{does, restores, returned, spelled, told};
+    ghost use Rattle.lq_views.specs.DropSequence.{canonical_of, effect, gives, inverse, is_for, is_fresh, does, restores, returned, spelled, told};
     ghost use Rattle.lq_views.specs.declared.drop_sequence.DropSequence.{DropSequence};
 
     ghost Key = { DropSequence };

@@ -1,5 +1,5 @@
 ghost use Rattle.std.specs.Prelude.{◌≡◌, IfOk, true};
-ghost use Rattle.lq_tree.specs.Found.{Reads};
+ghost use Rattle.lq_tree.specs.Look.{Reads};
 ghost use Rattle.lq_views.specs.DropView.{drop_view, is_for};
 
 use lq_base::{Dialect, Duplicate, Items, KindFault, Name, NoMemory};
@@ -35,8 +35,7 @@ impl DropView {
 }
 
 impl Change for DropView {
-    ghost use Rattle.lq_views.specs.DropView.{canonical_of, effect, gives, inverse, is_for, is_fresh};
-    ghost use Rattle.lq_views.specs.DropViewLaws.{does, restores, returned, spelled, told};
+    ghost use Rattle.lq_views.specs.DropView.{canonical_of, effect, gives, inverse, is_for, is_fresh, does, restores, returned, spelled, told};
     ghost use Rattle.lq_views.specs.declared.drop_view.DropView.{DropView};
 
     ghost Key = { DropView };

@@ -1,7 +1,6 @@
 ghost use Rattle.std.specs.Prelude.{◌≡◌, IfOk, true};
-ghost use Rattle.lq_tree.specs.Found.{Reads};
+ghost use Rattle.lq_tree.specs.Look.{Reads, value_at};
 ghost use Rattle.lq_tree.specs.Keys.{at_required};
-ghost use Rattle.lq_tree.specs.Look.{value_at};
 ghost use Rattle.lq_views.specs.QueryText.{a_query, query_of, spells_query};
 
 use lq_base::{Dialect, KindFault, Text};
@@ -34,7 +33,7 @@ impl Drop for QueryText {
 impl Model for QueryText {
     ghost use Rattle.std.specs.Prelude.{◌≡◌, Some};
     ghost use Rattle.lq_model.specs.SqlText.{query_in};
-    ghost use Rattle.lq_views.specs.DialectText.{DialectText};
+    ghost use Rattle.lq_views.specs.QueryText.{DialectText};
 
     ghost Value = { DialectText };
 

@@ -1,5 +1,5 @@
 ghost use Rattle.std.specs.Prelude.{◌≡◌, IfOk, true};
-ghost use Rattle.lq_tree.specs.Found.{Reads};
+ghost use Rattle.lq_tree.specs.Look.{Reads};
 ghost use Rattle.lq_views.specs.RenameSequence.{is_for, rename_sequence};
 
 use crate::sequences::for_postgresql;
@@ -49,8 +49,7 @@ impl RenameSequence {
 }
 
 impl Change for RenameSequence {
-    ghost use Rattle.lq_views.specs.RenameSequence.{canonical_of, effect, gives, inverse, is_for, is_fresh};
-    ghost use Rattle.lq_views.specs.RenameSequenceLaws.{does, restores, returned, spelled, told};
+    ghost use Rattle.lq_views.specs.RenameSequence.{canonical_of, effect, gives, inverse, is_for, is_fresh, does, restores, returned, spelled, told};
     ghost use Rattle.lq_views.specs.declared.rename_sequence.RenameSequence.{RenameSequence};
 
     ghost Key = { RenameSequence };

@@ -1,5 +1,5 @@
 ghost use Rattle.std.specs.Prelude.{◌≡◌, IfOk, true};
-ghost use Rattle.lq_tree.specs.Found.{Reads};
+ghost use Rattle.lq_tree.specs.Look.{Reads};
 ghost use Rattle.lq_views.specs.RenameView.{is_for, rename_view, renames};
 
 use lq_base::{Dialect, Duplicate, Items, KindFault, Name, NoMemory};
@@ -59,8 +59,7 @@ impl RenameView {
 }
 
 impl Change for RenameView {
-    ghost use Rattle.lq_views.specs.RenameView.{canonical_of, effect, gives, inverse, is_for, is_fresh};
-    ghost use Rattle.lq_views.specs.RenameViewLaws.{does, restores, returned, spelled, told};
+    ghost use Rattle.lq_views.specs.RenameView.{canonical_of, effect, gives, inverse, is_for, is_fresh, does, restores, returned, spelled, told};
     ghost use Rattle.lq_views.specs.declared.rename_view.RenameView.{RenameView};
 
     ghost Key = { RenameView };

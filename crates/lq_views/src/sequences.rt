@@ -1,8 +1,8 @@
 //! What the change types of sequences share.
 ghost use Rattle.std.specs.Prelude.{◌≡◌, IfOk, true};
-ghost use Rattle.lq_model.specs.Statement.{is_pg};
-ghost use Rattle.lq_tree.specs.Found.{Reads};
-ghost use Rattle.lq_views.specs.Sequences.{for_postgresql};
+ghost use Rattle.lq_model.specs.Step.{is_pg};
+ghost use Rattle.lq_tree.specs.Look.{Reads};
+ghost use Rattle.lq_views.specs.QueryText.{for_postgresql};
 
 use lq_base::{Dialect, KindFault};
 use lq_tree::not_for;

@@ -1,20 +1,31 @@
--- The words that the texts of commands are made of.
-use Rattle.std.specs.Prelude.{ℕ, ℤ, List, ◌++◌, ◌==◌, Bool, true, false, Option, Some, None, codes}
+-- Texts without control characters.
 use Rattle.std.specs.List.{before_first}
+use Rattle.std.specs.Prelude.{Bool, List, None, Option, Some, codes, encode_utf8_all, false, if◌then◌else◌, map, true, ℕ, ℤ, ◌++◌, ◌==◌}
+use Rattle.std.specs.Str.{chars}
+use denote.Ref.{Bor}
+use Rattle.lq_base.specs.Moment.{moment_text}
+use Rattle.lq_base.specs.Name.{identity_text, reason_text}
+use Rattle.lq_base.specs.Number.{is_control}
 use Rattle.lq_base.specs.declared.command.Command.{Command}
 use Rattle.lq_base.specs.declared.command.Command.TheVariants as command
 use Rattle.lq_base.specs.declared.command.Target.{Target}
 use Rattle.lq_base.specs.declared.command.Target.TheVariants as target
 use Rattle.lq_base.specs.declared.identity.Identity.{Identity}
 use Rattle.lq_base.specs.declared.run.Did.{Did}
-use Rattle.lq_base.specs.declared.run.Did.TheVariants.{Ran, RanAgain, Marked, Skipped, RolledBack}
+use Rattle.lq_base.specs.declared.run.Did.TheVariants.{Marked, Ran, RanAgain, RolledBack, Skipped}
 use Rattle.lq_base.specs.declared.run.Why.{Why}
 use Rattle.lq_base.specs.declared.run.Why.TheVariants as why
 use Rattle.lq_base.specs.declared.tracking.Lock.{Lock}
-use Rattle.lq_base.specs.Moment.{moment_text}
-use Rattle.lq_base.specs.Reason.{reason_text}
-use Rattle.lq_base.specs.Tracking.{identity_text}
-use denote.Ref.{Bor}
+
+-- a control character counts as `_`
+abbrev pub shown : ℕ → ℕ
+shown c = if is_control c then 95 else c
+
+-- each control character is `_`, and any other character stays
+unfoldable pub plain : List ℕ → List ℕ
+plain text = encode_utf8_all (map shown (chars text))
+
+-- The words that the texts of commands are made of.
 
 -- what was done with a changeset
 abbrev pub did_text : Did → List ℕ

@@ -1,5 +1,5 @@
 ghost use Rattle.std.specs.Prelude.{◌≡◌, IfOk, string_bytes};
-ghost use Rattle.lq_words.specs.Plain.{plain, shown};
+ghost use Rattle.lq_words.specs.Words.{plain, shown};
 
 use lq_base::{NoMemory, Text};
 use std::alloc::{AllocError, Global};

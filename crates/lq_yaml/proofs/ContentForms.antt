@@ -9,15 +9,11 @@ use Rattle.lq_yaml.specs.declared.token.Chomping.TheVariants.{Clip, Strip}
 use Rattle.lq_yaml.specs.declared.token.Head.TheVariants.{Dash, Key}
 use Rattle.lq_yaml.specs.declared.token.Token.{Token}
 use Rattle.lq_yaml.specs.declared.token.Token.TheVariants.{Begin, Value, LiteralHeader}
-use Rattle.lq_yaml.specs.Chars.{is_blank, unless_last}
-use Rattle.lq_yaml.specs.Scan.{trimmed, begins_with, is_word_end, without_blanks}
-use Rattle.lq_yaml.specs.Line.{is_end, colon, value_if, scalar_token, behind_pair, header, value_by, value_token, value_tokens, behind_key, entry_by, entry_tokens, is_dash, tokens_at}
-use Rattle.lq_yaml.specs.Line.{key as key_of}
-use Rattle.lq_yaml.specs.Made.{spaced, IsTail, IsPlainTail, IsValue, empty_list, empty_map, quoted, plain, clipping, stripping, IsEntry, value, key, pair, IsContent, entry, dash, item}
-use Rattle.lq_yaml.specs.MadeLaws.{IsStop, IsFront, in_single, in_double, as_plain, ContentsAreFound}
-use Rattle.lq_yaml.specs.Scalar.{Front, front, scalar_node, plain_front, plain_text, plain_length, is_plain}
+use Rattle.lq_yaml.specs.Tree.{is_blank, unless_last}
+use Rattle.lq_yaml.specs.Line.{trimmed, begins_with, is_word_end, without_blanks, is_end, colon, value_if, scalar_token, behind_pair, header, value_by, value_token, value_tokens, behind_key, entry_by, entry_tokens, is_dash, tokens_at, key as key_of, Front, front, scalar_node, plain_front, plain_text, plain_length, is_plain}
+use Rattle.lq_yaml.specs.Made.{spaced, IsTail, IsPlainTail, IsValue, empty_list, empty_map, quoted, plain, clipping, stripping, IsEntry, value, key, pair, IsContent, entry, dash, item, AreBlanks, IsQuoted, IsPlain, IsKey}
+use Rattle.lq_yaml.specs.Laws.{IsStop, IsFront, in_single, in_double, as_plain, ContentsAreFound}
 use Rattle.lq_yaml.specs.Meaning.{plain_node, is_mark}
-use Rattle.lq_yaml.specs.Written.{AreBlanks, IsQuoted, IsPlain, IsKey}
 use Rattle.lq_yaml.proofs.ScalarForms.{found, written}
 use Rattle.lq_yaml.proofs.Splits.{some_of, then_of, both_of, both, only_true, differs, all_append, blank_trimmed, trimmed_last}
 

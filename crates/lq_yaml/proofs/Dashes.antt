@@ -11,12 +11,10 @@ use Rattle.lq_yaml.specs.declared.token.Head.{Head}
 use Rattle.lq_yaml.specs.declared.token.Head.TheVariants.{Dash, Key}
 use Rattle.lq_yaml.specs.declared.token.Token.{Token}
 use Rattle.lq_yaml.specs.declared.token.Token.TheVariants.{Begin, Value, LiteralHeader, LiteralLine}
-use Rattle.lq_yaml.specs.Deep.{Deep, deep, deeper, deep_run}
-use Rattle.lq_yaml.specs.Follows.{shown_line}
+use Rattle.lq_yaml.specs.Machine.{Deep, deep, deeper, deep_run, Frame, Place, Cell, none, done, block, place, cell_node, begun, fits, filled, next, frame, settled, top, open_more, again, step}
+use Rattle.lq_yaml.specs.Laws.{shown_line, shallow, enough, Rises, IsShallow, Shows, Enters}
 use Rattle.lq_yaml.specs.Line.{Lexed, line_tokens, tokens_at, mode_after, parent_of, is_marker, content_tokens}
-use Rattle.lq_yaml.specs.LineMachine.{State, state, line_step}
-use Rattle.lq_yaml.specs.Machine.{Frame, Place, Cell, none, done, block, place, cell_node, begun, fits, filled, next, frame, settled, top, open_more, again, step}
-use Rattle.lq_yaml.specs.Shallow.{shallow, enough, Rises, IsShallow, Shows, Enters}
+use Rattle.lq_yaml.specs.Yaml.{State, state, line_step}
 use Rattle.lq_yaml.specs.Tree.{value_levels}
 use Rattle.lq_yaml.specs.View.{Takes}
 use Rattle.lq_yaml.proofs.Complete.{step_inside, step_value, step_header}

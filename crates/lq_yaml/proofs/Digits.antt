@@ -8,7 +8,7 @@ use Rattle.std.specs.Result.{result_ok}
 use lib.IntN.{pos, negsuc}
 use Rattle.std.specs.Str.Parse.{AllDigits, IsNumeral, ParsesSigned, without_leading_sign, signed_digits_value}
 use Rattle.std.proofs.lemmas.Str.Parse.{tells_digits}
-use Rattle.lq_yaml.specs.Chars.{is_nil}
+use Rattle.lq_yaml.specs.Tree.{is_nil}
 use Rattle.lq_yaml.specs.Meaning.{is_digit, is_begun, is_positive, is_whole, fits_128}
 
 and_true : (a b : Bool) → (a && b) ≡ true → (a ≡ true) × (b ≡ true)

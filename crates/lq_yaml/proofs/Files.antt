@@ -16,14 +16,11 @@ use Rattle.lq_yaml.specs.declared.mode.Mode.TheVariants.{Fresh, Between, AfterHe
 use Rattle.lq_yaml.specs.declared.token.Head.TheVariants.{Dash}
 use Rattle.lq_yaml.specs.declared.token.Token.{Token}
 use Rattle.lq_yaml.specs.declared.token.Token.TheVariants.{Begin}
-use Rattle.lq_yaml.specs.Deep.{Deep, deep, deep_start, deep_run}
-use Rattle.lq_yaml.specs.DeepView.{shown_lines}
+use Rattle.lq_yaml.specs.Machine.{Deep, deep, deep_start, deep_run, start, finish, reach}
+use Rattle.lq_yaml.specs.Yaml.{shown_lines, State, state, file_start, line_step, run_lines, IsYaml, TreesAreLaidOut, after_line, at_end, lines_tree, text_tree, yaml_tree}
 use Rattle.lq_yaml.specs.File.{lines_of, Blames, IsLaidOut, Begins, BeginsDeep, IsLeast, IsWrong, IsTooDeep, IsRead, LinesLayOutOne}
 use Rattle.lq_yaml.specs.Line.{Lexed, line_tokens}
-use Rattle.lq_yaml.specs.LineMachine.{State, state, file_start, line_step, run_lines}
-use Rattle.lq_yaml.specs.Machine.{start, finish, reach}
 use Rattle.lq_yaml.specs.Tree.{Tree, levels, node_of}
-use Rattle.lq_yaml.specs.Yaml.{IsYaml, TreesAreLaidOut, after_line, at_end, lines_tree, text_tree, yaml_tree}
 use Rattle.lq_yaml.proofs.Complete.{above, complete, not_above}
 use Rattle.lq_yaml.proofs.Sound as sound
 use Rattle.lq_yaml.proofs.LineForms.{file_found, file_written}

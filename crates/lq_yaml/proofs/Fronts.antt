@@ -3,9 +3,9 @@ use Rattle.std.proofs.Common.{◌≡◌, ℕ, List, [], ◌∷◌, ◌++◌, Opt
 use Rattle.std.specs.Option.{SomeIff}
 use Rattle.std.proofs.lemmas.Bool.{false_from_ne_true}
 use lib.Utf8.{scalar}
-use Rattle.lq_yaml.specs.Scalar.{Found, with_front, double, behind, behind_u, by_escape, by_code}
+use Rattle.lq_yaml.specs.Line.{Found, with_front, double, behind, behind_u, by_escape, by_code}
 use Rattle.lq_yaml.specs.Meaning.{character, coded, escaped}
-use Rattle.lq_yaml.specs.Follows.{one}
+use Rattle.lq_yaml.specs.Laws.{one}
 
 -- a character more
 pub front_more : (value : List ℕ) (c : ℕ) (o all : Option Found) (text : Option Found) → all ≡ option_map (with_front value) text → text ≡ option_map (with_front (c ∷ [])) o

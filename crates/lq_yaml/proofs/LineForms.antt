@@ -7,13 +7,11 @@ use Rattle.lq_yaml.specs.declared.mode.Mode.{Mode}
 use Rattle.lq_yaml.specs.declared.mode.Mode.TheVariants.{Fresh, Between, AfterHeader, InLiteral}
 use Rattle.lq_yaml.specs.declared.token.Token.{Token}
 use Rattle.lq_yaml.specs.declared.token.Token.TheVariants.{LiteralLine}
-use Rattle.lq_yaml.specs.Chars.{is_blank, is_nil}
-use Rattle.lq_yaml.specs.Scan.{trimmed, begins_with, spaces, without_spaces, without_blanks}
+use Rattle.lq_yaml.specs.Tree.{is_blank, is_nil}
+use Rattle.lq_yaml.specs.Line.{trimmed, begins_with, spaces, without_spaces, without_blanks, Lexed, tokens_at, base_of, parent_of, without_block, blank_tokens, is_marker, mode_after, has_tab, line_by, line_tokens, tokens_of}
 use Rattle.lq_yaml.specs.Layout.{literal_lines}
-use Rattle.lq_yaml.specs.Line.{Lexed, tokens_at, base_of, parent_of, without_block, blank_tokens, is_marker, mode_after, has_tab, line_by, line_tokens, tokens_of}
-use Rattle.lq_yaml.specs.Made.{spaced, IsValue, empty_list, empty_map, quoted, plain, clipping, stripping, IsEntry, value, key, pair, IsContent, entry, dash, item, IsLine, IsComment, IsSkipped, IsMarker, column_after, opens_block, HasIndent, IsBlockIndent, IsBlockLine, AreBlockLines, EndsBlock, AreLines, no_lines, skipped, with_tokens, with_block, AreSkipped, IsUnmarked, IsFile, marked, unmarked}
-use Rattle.lq_yaml.specs.MadeLaws.{FilesAreFound, LinesMeanOne}
-use Rattle.lq_yaml.specs.Written.{AreBlanks, BeginsWith}
+use Rattle.lq_yaml.specs.Made.{spaced, IsValue, empty_list, empty_map, quoted, plain, clipping, stripping, IsEntry, value, key, pair, IsContent, entry, dash, item, IsLine, IsComment, IsSkipped, IsMarker, column_after, opens_block, HasIndent, IsBlockIndent, IsBlockLine, AreBlockLines, EndsBlock, AreLines, no_lines, skipped, with_tokens, with_block, AreSkipped, IsUnmarked, IsFile, marked, unmarked, AreBlanks, BeginsWith}
+use Rattle.lq_yaml.specs.Laws.{FilesAreFound, LinesMeanOne}
 use Rattle.lq_yaml.proofs.ContentForms.{split, passed, all_passed, none_passed, begun_with, first_content, content_read, content_written}
 use Rattle.lq_yaml.proofs.Splits.{some_of, then_of, both_of, differs, trimmed_is, trimmed_last, Left, trim}
 

@@ -4,7 +4,7 @@ use Rattle.std.proofs.lemmas.Cmp.{nat_list_cmp_total}
 use Rattle.std.specs.BTreeMap.{insert_entry, is_at}
 use Rattle.std.specs.Map.{lookup}
 use Rattle.std.specs.Ordering.{match_ordering, ordering_reverse, is_eq}
-use Rattle.lq_base.specs.Text.{text_cmp, is_text}
+use Rattle.lq_base.specs.Name.{text_cmp, is_text}
 use Rattle.lq_tree.specs.declared.node.Node.{Node, List as ListNode, Map as MapNode}
 use Rattle.lq_yaml.specs.declared.token.Head.{Head}
 use Rattle.lq_yaml.specs.declared.token.Head.TheVariants.{Dash, Key}

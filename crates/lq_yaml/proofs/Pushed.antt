@@ -5,10 +5,9 @@ use Rattle.std.proofs.Math.Seq.{take-length}
 use Rattle.lq_yaml.specs.declared.token.Head.TheVariants.{Dash, Key}
 use Rattle.lq_yaml.specs.declared.token.Token.{Token}
 use Rattle.lq_yaml.specs.declared.token.Token.TheVariants.{Begin}
-use Rattle.lq_yaml.specs.Scan.{without_blanks}
-use Rattle.lq_yaml.specs.Shallow.{shallow, enough}
+use Rattle.lq_yaml.specs.Line.{without_blanks, key, behind_key, value_tokens, entry_tokens, is_dash, tokens_at}
+use Rattle.lq_yaml.specs.Laws.{shallow, enough}
 use Rattle.lq_yaml.proofs.Rising.{entry_stays, stays_whole}
-use Rattle.lq_yaml.specs.Line.{key, behind_key, value_tokens, entry_tokens, is_dash, tokens_at}
 
 pub pushed : (before : List Token) (t : Token) (o : Option (List Token)) → option_map (λ ts. before ++ ts) (option_map (λ ts. t ∷ ts) o) ≡ option_map (λ ts. (before ++ t ∷ []) ++ ts) o
 pushed before t None = refl

@@ -6,10 +6,8 @@ use Rattle.lq_yaml.specs.declared.token.Chomping.{Chomping}
 use Rattle.lq_yaml.specs.declared.token.Head.TheVariants.{Dash, Key}
 use Rattle.lq_yaml.specs.declared.token.Token.{Token}
 use Rattle.lq_yaml.specs.declared.token.Token.TheVariants.{Begin, Value, LiteralHeader, LiteralLine}
-use Rattle.lq_yaml.specs.Scan.{without_blanks}
-use Rattle.lq_yaml.specs.Scalar.{front, scalar_node}
-use Rattle.lq_yaml.specs.Line.{is_end, value_if, value_by, value_token, value_tokens, header, behind_pair, key, behind_key, entry_by, entry_tokens, is_dash, tokens_at}
-use Rattle.lq_yaml.specs.Shallow.{shallow, Rises}
+use Rattle.lq_yaml.specs.Line.{without_blanks, front, scalar_node, is_end, value_if, value_by, value_token, value_tokens, header, behind_pair, key, behind_key, entry_by, entry_tokens, is_dash, tokens_at}
+use Rattle.lq_yaml.specs.Laws.{shallow, Rises}
 use Rattle.lq_yaml.proofs.Trees.{map_some, then_some, any, either}
 
 -- ---- values

@@ -3,10 +3,9 @@ use Rattle.std.proofs.Common.{◌≡◌, ℕ, ◌≤◌, ◌+◌, max, length, a
 use Rattle.lq_yaml.specs.declared.mode.Mode.{Mode}
 use Rattle.lq_yaml.specs.declared.token.Token.{Token}
 use Rattle.lq_yaml.specs.declared.token.Token.TheVariants.{Begin, Value, LiteralHeader, LiteralLine}
-use Rattle.lq_yaml.specs.Deep.{Deep, deep, own_levels, deeper, deep_step, deep_run}
+use Rattle.lq_yaml.specs.Machine.{Deep, deep, own_levels, deeper, deep_step, deep_run, Place, step, run, level_at, reach, reach_by}
 use Rattle.lq_yaml.specs.Line.{Lexed, line_tokens, tokens_of}
-use Rattle.lq_yaml.specs.LineMachine.{State, state, line_step, run_lines}
-use Rattle.lq_yaml.specs.Machine.{Place, step, run, level_at, reach, reach_by}
+use Rattle.lq_yaml.specs.Yaml.{State, state, line_step, run_lines}
 
 -- ---- over tokens
 

@@ -4,12 +4,11 @@ use Rattle.std.proofs.lemmas.Bool.{eqb-true, ne_eqb}
 use Rattle.std.proofs.lemmas.List.{take-append-drop}
 use Rattle.std.specs.List.{list_all}
 use Rattle.std.proofs.Math.Seq.{take-append_seam, drop-append_seam, get_or-append_seam}
-use Rattle.lq_yaml.specs.Chars.{is_blank}
-use Rattle.lq_yaml.specs.Scan.{trimmed, begins_with}
-use Rattle.lq_yaml.specs.Scalar.{Found, Front, with_front, single, quote, double, behind, behind_u, stops, plain_length, begins_otherwise, is_plain, ends_with_colon, quoted_front, plain_text, plain_front, front}
+use Rattle.lq_yaml.specs.Tree.{is_blank}
+use Rattle.lq_yaml.specs.Line.{trimmed, begins_with, Found, Front, with_front, single, quote, double, behind, behind_u, stops, plain_length, begins_otherwise, is_plain, ends_with_colon, quoted_front, plain_text, plain_front, front}
 use Rattle.lq_yaml.specs.Meaning.{escaped, coded, is_mark}
-use Rattle.lq_yaml.specs.Written.{AreBlanks, Holds, HasLast, doubled, IsPiece, itself, sign, code, ArePieces, IsPlain}
-use Rattle.lq_yaml.specs.MadeLaws.{IsStop, IsFront, in_single, in_double, as_plain, ScalarsAreFound}
+use Rattle.lq_yaml.specs.Made.{AreBlanks, Holds, HasLast, doubled, IsPiece, itself, sign, code, ArePieces, IsPlain}
+use Rattle.lq_yaml.specs.Laws.{IsStop, IsFront, in_single, in_double, as_plain, ScalarsAreFound}
 use Rattle.lq_yaml.proofs.Splits.{some_of, both_of, not_true, differs, trimmed_last, Left, trim}
 
 -- ---- between single quotes

@@ -10,21 +10,17 @@ use Rattle.std.specs.Str.{bytes_eq, is_utf8}
 use Rattle.std.specs.Str.Parse.{signed_digits_value}
 use Rattle.std.specs.declared.cmp.Ordering.{Ordering}
 use Rattle.std.specs.declared.cmp.Ordering.TheVariants.{Equal, Greater, Less}
-use Rattle.lq_base.specs.Text.{text_cmp}
+use Rattle.lq_base.specs.Name.{text_cmp}
 use Rattle.lq_tree.proofs.Says.{IsSo}
 use Rattle.lq_tree.proofs.Small.{are_small, have_small, is_small, list_is, map_is, null_small, text_small, truth_small, whole_is}
 use Rattle.lq_tree.specs.declared.node.Node.{List as ListNode, Map as MapNode, Node, Null, Text as TextNode, Truth, Whole}
-use Rattle.lq_yaml.specs.Chars.{is_nil}
-use Rattle.lq_yaml.specs.Deep.{Deep, deep_run, deep_start, deep_step}
+use Rattle.lq_yaml.specs.Tree.{is_nil}
+use Rattle.lq_yaml.specs.Machine.{Deep, deep_run, deep_start, deep_step, Cell, Frame, Part, Place, again, add_line, begin, begun, block, cell_node, done, entries, filled, finish, fits, frame, items, made, next, none, open_more, place, put, settled, step, top}
 use Rattle.lq_yaml.specs.File.{lines_of, most_levels}
 use Rattle.lq_yaml.specs.Layout.{block_text}
-use Rattle.lq_yaml.specs.Line.{Lexed, base_of, behind_key, behind_pair, blank_tokens, content_tokens, entry_by, entry_tokens, has_tab, header, is_dash, is_end, is_marker, key, line_by, line_tokens, mode_after, parent_of, scalar_token, tokens_at, value_by, value_if, value_token, value_tokens, without_block}
-use Rattle.lq_yaml.specs.LineMachine.{State, file_start, line_step, state}
-use Rattle.lq_yaml.specs.Machine.{Cell, Frame, Part, Place, again, add_line, begin, begun, block, cell_node, done, entries, filled, finish, fits, frame, items, made, next, none, open_more, place, put, settled, step, top}
+use Rattle.lq_yaml.specs.Line.{Lexed, base_of, behind_key, behind_pair, blank_tokens, content_tokens, entry_by, entry_tokens, has_tab, header, is_dash, is_end, is_marker, key, line_by, line_tokens, mode_after, parent_of, scalar_token, tokens_at, value_by, value_if, value_token, value_tokens, without_block, Front, front, scalar_node, begins_with, spaces, trimmed, without_blanks, without_spaces}
+use Rattle.lq_yaml.specs.Yaml.{State, file_start, line_step, state, after_line, at_end, lines_tree, text_tree, yaml_tree}
 use Rattle.lq_yaml.specs.Meaning.{fits_128, is_whole, plain_node, whole_or_text}
-use Rattle.lq_yaml.specs.Scalar.{Front, front, scalar_node}
-use Rattle.lq_yaml.specs.Scan.{begins_with, spaces, trimmed, without_blanks, without_spaces}
-use Rattle.lq_yaml.specs.Yaml.{after_line, at_end, lines_tree, text_tree, yaml_tree}
 use Rattle.lq_yaml.specs.declared.fault.YamlFault.{YamlFault}
 use Rattle.lq_yaml.specs.declared.fault.YamlFault.TheVariants.{NotUtf8, TooDeep}
 use Rattle.lq_yaml.specs.declared.mode.Mode.{Mode}

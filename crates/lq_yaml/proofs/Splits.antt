@@ -2,9 +2,9 @@
 use Rattle.std.proofs.Common.{◌≡◌, ℕ, Bool, true, false, cond, not, ◌&&◌, ◌||◌, ◌==◌, List, [], ◌∷◌, ◌++◌, Option, Some, None, option_map, option_and_then, refl, sym, ap, ◌∙◌, ◌⊎◌, inl, inr}
 use Rattle.std.proofs.lemmas.Bool.{ne_eqb}
 use Rattle.std.specs.List.{list_all}
-use Rattle.lq_yaml.specs.Chars.{is_blank, unless_last}
-use Rattle.lq_yaml.specs.Scan.{trimmed}
-use Rattle.lq_yaml.specs.Written.{AreBlanks, HasLast}
+use Rattle.lq_yaml.specs.Tree.{is_blank, unless_last}
+use Rattle.lq_yaml.specs.Line.{trimmed}
+use Rattle.lq_yaml.specs.Made.{AreBlanks, HasLast}
 
 pub some_of : {A B : Type 0} (h : A → B) (o : Option A) (y : B) → option_map h o ≡ Some y → (x : A) × (o ≡ Some x) × (h x ≡ y)
 some_of h None y is = absurd cc

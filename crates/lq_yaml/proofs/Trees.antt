@@ -7,9 +7,9 @@ use Rattle.std.specs.List.{list_all}
 use Rattle.std.specs.Map.{keys_of, values_of}
 use Rattle.std.specs.Option.{IfSome}
 use Rattle.std.specs.Ordering.{is_lt, match_ordering, ordering_reverse}
-use Rattle.lq_base.specs.Text.{text_cmp}
+use Rattle.lq_base.specs.Name.{text_cmp}
 use Rattle.lq_tree.specs.declared.node.Node.{Node, Null, Truth, Whole, Text as TextNode, List as ListNode, Map as MapNode, the_lemmas}
-use Rattle.lq_tree.specs.Tree.{rises, is_tree, IsTree}
+use Rattle.lq_tree.specs.Json.{rises, is_tree, IsTree}
 use Rattle.lq_yaml.specs.declared.fault.YamlFault.{YamlFault}
 use Rattle.lq_yaml.specs.declared.mode.Mode.{Mode}
 use Rattle.lq_yaml.specs.declared.mode.Mode.TheVariants.{Fresh, Between, AfterHeader, InLiteral}
@@ -18,14 +18,11 @@ use Rattle.lq_yaml.specs.declared.token.Head.{Head}
 use Rattle.lq_yaml.specs.declared.token.Head.TheVariants.{Dash, Key}
 use Rattle.lq_yaml.specs.declared.token.Token.{Token}
 use Rattle.lq_yaml.specs.declared.token.Token.TheVariants.{Begin, Value, LiteralLine}
-use Rattle.lq_yaml.specs.Chars.{is_nil}
-use Rattle.lq_yaml.specs.Scan.{begins_with, spaces, trimmed, without_blanks, without_spaces}
+use Rattle.lq_yaml.specs.Tree.{is_nil, Tree, leaf, empty, collection, Entries, no_entries, entry, node_of, collection_node, items_of, put_all}
+use Rattle.lq_yaml.specs.Line.{begins_with, spaces, trimmed, without_blanks, without_spaces, Lexed, is_end, value_if, value_by, value_token, value_tokens, header, behind_pair, key, behind_key, entry_by, entry_tokens, is_dash, tokens_at, base_of, blank_tokens, is_marker, content_tokens, has_tab, line_by, line_tokens, mode_after, parent_of, without_block, tokens_of, Front, front, scalar_node}
 use Rattle.lq_yaml.specs.File.{IsRead}
 use Rattle.lq_yaml.specs.Layout.{Inside, AreEntries, IsLeaf}
-use Rattle.lq_yaml.specs.Line.{Lexed, is_end, value_if, value_by, value_token, value_tokens, header, behind_pair, key, behind_key, entry_by, entry_tokens, is_dash, tokens_at, base_of, blank_tokens, is_marker, content_tokens, has_tab, line_by, line_tokens, mode_after, parent_of, without_block, tokens_of}
-use Rattle.lq_yaml.specs.Scalar.{Front, front, scalar_node}
 use Rattle.lq_yaml.specs.Meaning.{plain_node}
-use Rattle.lq_yaml.specs.Tree.{Tree, leaf, empty, collection, Entries, no_entries, entry, node_of, collection_node, items_of, put_all}
 use Rattle.lq_yaml.proofs.LineForms.{file_written}
 
 -- ---- entries in order

@@ -1,7 +1,7 @@
 -- The items at the end that pass a test are dropped one by one.
 use Rattle.std.proofs.Common.{◌≡◌, ℕ, ◌<◌, ◌≤◌, ◌+◌, ◌-◌, Bool, true, false, List, [], ◌∷◌, ◌++◌, length, take, get_or, arith, refl, sym, ap, ◌∙◌}
 use Rattle.std.proofs.lemmas.List.{take_more}
-use Rattle.lq_yaml.specs.Chars.{unless_last, without_last}
+use Rattle.lq_yaml.specs.Tree.{unless_last, without_last}
 
 module _ {A : Type 0} (test : A → Bool) where
   dropped : (xs : List A) (c : A) → test c ≡ true → without_last test (xs ++ c ∷ []) ≡ without_last test xs

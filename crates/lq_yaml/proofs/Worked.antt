@@ -3,9 +3,8 @@ use Rattle.std.proofs.Common.{◌≡◌, ℕ, ◌≤◌, List, Option, Some, Non
 use lib.Utf8.{encode}
 use Rattle.lq_tree.specs.declared.node.Node.{Node, out-Node}
 use Rattle.lq_tree.specs.declared.node.Node.TheOpen.{Node-F}
-use Rattle.lq_yaml.specs.Examples.{ScalarExamples, LineExamples}
-use Rattle.lq_yaml.specs.File.{IsRead}
-use Rattle.lq_yaml.specs.LineMachine.{State, file_start, run_lines}
+use Rattle.lq_yaml.specs.File.{ScalarExamples, LineExamples, IsRead}
+use Rattle.lq_yaml.specs.Yaml.{State, file_start, run_lines}
 use Rattle.lq_yaml.specs.Machine.{finish}
 use Rattle.lq_yaml.specs.Tree.{open_levels, value_levels}
 use Rattle.lq_yaml.proofs.Files.{is_read, ends}

@@ -1,16 +1,15 @@
 -- How a tree is laid out by tokens.
-use Rattle.std.specs.Prelude.{◌≡◌, ℕ, ◌<◌, Bool, true, false, not, List, [], ◌∷◌, ◌++◌, ◌⊎◌}
 use Rattle.std.specs.List.{list_all}
-use Rattle.lq_base.specs.Text.{is_text}
+use Rattle.std.specs.Prelude.{Bool, List, [], false, not, true, ℕ, ◌++◌, ◌<◌, ◌∷◌, ◌≡◌, ◌⊎◌}
+use Rattle.lq_base.specs.Name.{is_text}
 use Rattle.lq_tree.specs.declared.node.Node.{Node, Text as TextNode}
+use Rattle.lq_yaml.specs.Tree.{Entries, Tree, collection, empty, entry, is_nil, leaf, no_entries, without_last}
 use Rattle.lq_yaml.specs.declared.token.Chomping.{Chomping}
 use Rattle.lq_yaml.specs.declared.token.Chomping.TheVariants.{Clip, Strip}
 use Rattle.lq_yaml.specs.declared.token.Head.{Head}
 use Rattle.lq_yaml.specs.declared.token.Head.TheVariants.{Dash, Key}
 use Rattle.lq_yaml.specs.declared.token.Token.{Token}
-use Rattle.lq_yaml.specs.declared.token.Token.TheVariants.{Begin, Value, LiteralHeader, LiteralLine}
-use Rattle.lq_yaml.specs.Chars.{is_nil, without_last}
-use Rattle.lq_yaml.specs.Tree.{Tree, leaf, empty, collection, Entries, no_entries, entry}
+use Rattle.lq_yaml.specs.declared.token.Token.TheVariants.{Begin, LiteralHeader, LiteralLine, Value}
 
 -- whether two heads may stand in one collection: two dashes, or two keys that differ
 abbrev pub goes_with : Head → Head → Bool

@@ -1,16 +1,16 @@
 -- Reading tokens one by one, over a stack of open collections. What the code computes: no public contract names it, so it need not be believed.
-use Rattle.std.specs.Prelude.{ℕ, ◌+◌, max, Bool, true, false, not, ◌&&◌, cond, nat_lt, is_some, List, [], ◌∷◌, ◌++◌, length, Option, Some, None, option_and_then}
 use Rattle.std.specs.BTreeMap.{insert_entry, is_at}
 use Rattle.std.specs.Map.{lookup}
-use Rattle.lq_base.specs.Text.{text_cmp, is_text}
-use Rattle.lq_tree.specs.declared.node.Node.{Node, Null, Text as TextNode, List as ListNode, Map as MapNode}
+use Rattle.std.specs.Prelude.{Bool, List, None, Option, Some, [], cond, false, is_some, length, max, nat_lt, not, option_and_then, option_map, true, ℕ, ◌&&◌, ◌++◌, ◌+◌, ◌∷◌}
+use Rattle.lq_base.specs.Name.{is_text, text_cmp}
+use Rattle.lq_tree.specs.declared.node.Node.{List as ListNode, Map as MapNode, Node, Null, Text as TextNode}
+use Rattle.lq_yaml.specs.Layout.{block_text}
+use Rattle.lq_yaml.specs.Tree.{value_levels}
 use Rattle.lq_yaml.specs.declared.token.Chomping.{Chomping}
 use Rattle.lq_yaml.specs.declared.token.Head.{Head}
 use Rattle.lq_yaml.specs.declared.token.Head.TheVariants.{Dash, Key}
 use Rattle.lq_yaml.specs.declared.token.Token.{Token}
-use Rattle.lq_yaml.specs.declared.token.Token.TheVariants.{Begin, Value, LiteralHeader, LiteralLine}
-use Rattle.lq_yaml.specs.Tree.{value_levels}
-use Rattle.lq_yaml.specs.Layout.{block_text}
+use Rattle.lq_yaml.specs.declared.token.Token.TheVariants.{Begin, LiteralHeader, LiteralLine, Value}
 
 -- what is closed of an open collection; of a mapping also the key that is open
 pub data Part : Type 0 where
@@ -129,3 +129,31 @@ reach_by t more (Some n) = max (level_at t n) (more n)
 abbrev pub reach : List Token → Place → ℕ
 reach [] s = 0
 reach (t ∷ ts) s = reach_by t (λ n. reach ts n) (step t s)
+
+-- The machine with the deepest level on its way. What the code computes: it need not be believed.
+
+pub record Deep : Type 0 where
+  pub at : Place
+  pub levels : ℕ
+
+abbrev pub deep : Place → ℕ → Deep
+deep p k = record { at = p; levels = k }
+
+abbrev pub deep_start : Deep
+deep_start = deep start 0
+
+abbrev pub own_levels : Token → Option ℕ
+own_levels (Begin q h) = Some 0
+own_levels (Value q v) = Some (value_levels v)
+own_levels _ = None
+
+abbrev pub deeper : ℕ → ℕ → Option ℕ → ℕ
+deeper levels frames None = levels
+deeper levels frames (Some own) = max levels (frames + own)
+
+abbrev pub deep_step : Token → Deep → Option Deep
+deep_step t s = option_map (λ n. deep n (deeper s.levels (length n.frames) (own_levels t))) (step t s.at)
+
+abbrev pub deep_run : List Token → Deep → Option Deep
+deep_run [] s = Some s
+deep_run (t ∷ ts) s = option_and_then (λ n. deep_run ts n) (deep_step t s)

@@ -1,10 +1,10 @@
 -- What signs mean: escapes, and what a plain scalar stands for.
-use Rattle.std.specs.Prelude.{ℕ, ◌+◌, ◌-◌, ◌*◌, ◌^◌, ◌==◌, ◌&&◌, ◌||◌, nat_le, Bool, true, false, cond, if◌then◌else◌, ℤ, pos, neg_ℤ, int_le, List, [], ◌∷◌, ◌++◌, Option, Some, None, option_and_then, codes, bytes_eq}
 use Rattle.std.specs.List.{list_all, list_any}
+use Rattle.std.specs.Prelude.{Bool, List, None, Option, Some, [], bytes_eq, codes, cond, false, if◌then◌else◌, int_le, nat_le, neg_ℤ, option_and_then, pos, true, ℕ, ℤ, ◌&&◌, ◌*◌, ◌++◌, ◌+◌, ◌-◌, ◌==◌, ◌^◌, ◌||◌, ◌∷◌}
 use Rattle.std.specs.Str.Parse.{signed_digits_value}
 use lib.Utf8.{scalar}
-use Rattle.lq_tree.specs.declared.node.Node.{Node, Null, Truth, Whole, Text as TextNode}
-use Rattle.lq_yaml.specs.Chars.{is_nil}
+use Rattle.lq_tree.specs.declared.node.Node.{Node, Null, Text as TextNode, Truth, Whole}
+use Rattle.lq_yaml.specs.Tree.{is_nil}
 
 -- ---- escapes between `"`
 

@@ -1,11 +1,30 @@
--- A tree as it stands in a file, with its entries in the order of the lines, and the node that it means.
-use Rattle.std.specs.Prelude.{ℕ, ◌+◌, max, List, [], ◌∷◌}
+-- Blanks, and what stands before the last items of a list.
 use Rattle.std.specs.BTreeMap.{insert_entry}
-use Rattle.lq_base.specs.Text.{text_cmp}
-use Rattle.lq_tree.specs.declared.node.Node.{Node, out-Node, Null, List as ListNode, Map as MapNode}
+use Rattle.std.specs.Prelude.{Bool, List, [], cond, false, max, true, ℕ, ◌+◌, ◌==◌, ◌||◌, ◌∷◌}
+use Rattle.lq_base.specs.Name.{text_cmp}
+use Rattle.lq_tree.specs.declared.node.Node.{List as ListNode, Map as MapNode, Node, Null, out-Node}
 use Rattle.lq_tree.specs.declared.node.Node.TheOpen.{Node-F}
 use Rattle.lq_yaml.specs.declared.token.Head.{Head}
 use Rattle.lq_yaml.specs.declared.token.Head.TheVariants.{Dash, Key}
+
+-- a space or a tab
+abbrev pub is_blank : ℕ → Bool
+is_blank c = c == 32 || c == 9
+
+abbrev pub unless_last : {A : Type 0} → (A → Bool) → A → List A → List A
+unless_last test x [] = cond (test x) [] (x ∷ [])
+unless_last test x (y ∷ ys) = x ∷ y ∷ ys
+
+-- the items without those at the end that pass the test
+abbrev pub without_last : {A : Type 0} → (A → Bool) → List A → List A
+without_last test [] = []
+without_last test (x ∷ xs) = unless_last test x (without_last test xs)
+
+abbrev pub is_nil : List ℕ → Bool
+is_nil [] = true
+is_nil (c ∷ cs) = false
+
+-- A tree as it stands in a file, with its entries in the order of the lines, and the node that it means.
 
 mutual
   -- a scalar, `[]` or `{}`; no value; or a sequence or a mapping

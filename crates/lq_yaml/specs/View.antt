@@ -1,12 +1,12 @@
 -- What the values of the builder stand for.
-use Rattle.std.specs.Prelude.{◌≡◌, ℕ, Bool, true, false, List, map, reverse, Option, Some, None}
+use Rattle.std.specs.Prelude.{Bool, List, None, Option, Some, false, map, reverse, true, ℕ, ◌≡◌}
+use Rattle.lq_yaml.specs.Machine.{Cell, Frame, Part, Place, block, done, entries, items, none, place, settled}
 use Rattle.lq_yaml.specs.declared.part.Part as code_part
 use Rattle.lq_yaml.specs.declared.part.Part.TheVariants as code_parts
-use Rattle.lq_yaml.specs.declared.place.Frame as code_frame
 use Rattle.lq_yaml.specs.declared.place.Cell as code_cell
 use Rattle.lq_yaml.specs.declared.place.Cell.TheVariants as code_cells
+use Rattle.lq_yaml.specs.declared.place.Frame as code_frame
 use Rattle.lq_yaml.specs.declared.place.Place as code_place
-use Rattle.lq_yaml.specs.Machine.{Part, items, entries, Frame, Cell, none, done, block, Place, place, settled}
 
 abbrev pub part_of : code_part.Part → Part
 part_of (code_parts.Items ns) = items ns

@@ -1,12 +1,49 @@
--- The tree of a YAML file as a function of its bytes. What the code computes: that it is the tree which the lines lay out is the law `TreesAreLaidOut`.
-use Rattle.std.specs.Prelude.{◌≡◌, ◌↔◌, ℕ, ◌+◌, cond, if◌then◌else◌, nat_lt, List, [], ◌∷◌, Option, Some, None, Result, Ok, Err}
-use Rattle.std.specs.Str.{IsUtf8, is_utf8}
+-- The machine from line to line. What the code computes: it need not be believed.
+use Rattle.std.specs.Prelude.{Err, List, None, Ok, Option, Result, Some, [], cond, if◌then◌else◌, map, nat_lt, option_and_then, option_map, ℕ, ◌+◌, ◌↔◌, ◌∷◌, ◌≡◌}
+use Rattle.std.specs.Str.{IsUtf8, chars, is_utf8}
+use denote.Ref.{Bor}
 use Rattle.lq_tree.specs.declared.node.Node.{Node}
+use Rattle.lq_yaml.specs.File.{IsRead, IsTooDeep, IsWrong, lines_of, most_levels}
+use Rattle.lq_yaml.specs.Line.{line_tokens}
+use Rattle.lq_yaml.specs.Machine.{Deep, deep, deep_run, deep_start, finish}
+use Rattle.lq_yaml.specs.View.{place_of}
+use Rattle.lq_yaml.specs.declared.builder.Builder.{Builder}
 use Rattle.lq_yaml.specs.declared.fault.YamlFault.{YamlFault}
-use Rattle.lq_yaml.specs.declared.fault.YamlFault.TheVariants.{NotUtf8, Line, TooDeep, OutOfMemory}
-use Rattle.lq_yaml.specs.File.{lines_of, most_levels, IsRead, IsWrong, IsTooDeep}
-use Rattle.lq_yaml.specs.LineMachine.{State, file_start, line_step}
-use Rattle.lq_yaml.specs.Machine.{finish}
+use Rattle.lq_yaml.specs.declared.fault.YamlFault.TheVariants.{Line, NotUtf8, OutOfMemory, TooDeep}
+use Rattle.lq_yaml.specs.declared.mode.Mode.{Mode}
+use Rattle.lq_yaml.specs.declared.mode.Mode.TheVariants.{Fresh}
+use Rattle.lq_yaml.specs.declared.reading.Reader.{Reader}
+
+pub record State : Type 0 where
+  pub mode : Mode
+  pub deep : Deep
+
+abbrev pub state : Mode → Deep → State
+state m d = record { mode = m; deep = d }
+
+abbrev pub file_start : State
+file_start = state Fresh deep_start
+
+abbrev pub line_step : List ℕ → State → Option State
+line_step l s = option_and_then (λ x. option_map (λ d. state x.1 d) (deep_run x.0 s.deep)) (line_tokens s.mode l)
+
+abbrev pub run_lines : List (List ℕ) → State → Option State
+run_lines [] s = Some s
+run_lines (l ∷ ls) s = option_and_then (λ n. run_lines ls n) (line_step l s)
+
+-- What a builder and a reader stand for.
+
+abbrev pub deep_of : Builder → Deep
+deep_of b = deep (place_of b.place) b.levels
+
+abbrev pub state_of : Reader → State
+state_of r = state r.mode (deep_of r.builder)
+
+-- the lines of a file, as characters
+abbrev pub shown_lines : List (Bor (List ℕ)) → List (List ℕ)
+shown_lines ls = map (λ l. chars l.now) ls
+
+-- The tree of a YAML file as a function of its bytes. What the code computes: that it is the tree which the lines lay out is the law `TreesAreLaidOut`.
 
 -- at the end of the file, which is the line of that number
 abbrev pub at_end : ℕ → Option Node → Result Node YamlFault

@@ -1,6 +1,6 @@
 ghost use Rattle.std.specs.Prelude.{◌≡◌, IfOk};
 ghost use Rattle.lq_yaml.specs.Layout.{block_text, lines_text, line_end};
-ghost use Rattle.lq_yaml.specs.Chars.{is_nil, without_last};
+ghost use Rattle.lq_yaml.specs.Tree.{is_nil, without_last};
 
 use crate::token::Chomping;
 use lq_base::{NoMemory, Text};

@@ -1,9 +1,8 @@
 ghost use Rattle.std.specs.Prelude.{◌≡◌, IfOk, IfSome, ◌≤◌};
-ghost use Rattle.lq_yaml.specs.Deep.{deep_start, deep_step, deep_run, own_levels};
-ghost use Rattle.lq_yaml.specs.Machine.{finish};
+ghost use Rattle.lq_yaml.specs.Machine.{deep_start, deep_step, deep_run, own_levels, finish};
 ghost use Rattle.lq_yaml.specs.Tree.{value_levels};
 ghost use Rattle.lq_yaml.specs.View.{place_of, Takes};
-ghost use Rattle.lq_yaml.specs.DeepView.{deep_of};
+ghost use Rattle.lq_yaml.specs.Yaml.{deep_of};
 
 use crate::place::Place;
 use crate::token::Token;

@@ -1,6 +1,6 @@
 ghost use Rattle.std.specs.Prelude.{◌≡◌, ◌≤◌, IfOk, chars, encode_utf8_all, length, string_bytes};
-ghost use Rattle.lq_yaml.specs.Chars.{is_blank};
-ghost use Rattle.lq_yaml.specs.Scan.{spaces, without_spaces, without_blanks, trimmed, begins_with, is_word_end};
+ghost use Rattle.lq_yaml.specs.Tree.{is_blank};
+ghost use Rattle.lq_yaml.specs.Line.{spaces, without_spaces, without_blanks, trimmed, begins_with, is_word_end};
 
 use lq_base::{NoMemory, Text};
 use std::alloc::Global;

@@ -1,7 +1,6 @@
 ghost use Rattle.std.specs.Prelude.{◌≡◌, ◌+◌, ◌*◌, ◌<◌, ◌^◌, IfOk, length, option_map, List, [], ◌++◌};
 ghost use Rattle.lq_yaml.specs.Line.{is_end, colon, value_if, scalar_token, behind_pair, header, value_token, value_tokens, key, behind_key, entry_tokens, is_dash, tokens_at};
-ghost use Rattle.lq_yaml.specs.Shallow.{shallow, enough};
-ghost use Rattle.lq_yaml.specs.Follows.{Gives};
+ghost use Rattle.lq_yaml.specs.Laws.{shallow, enough, Gives};
 
 use crate::chars::{begins_with, is_blank, is_word_end, text_of, without_blanks};
 use crate::front::front_of;

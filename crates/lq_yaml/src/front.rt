@@ -1,6 +1,6 @@
 ghost use Rattle.std.specs.Prelude.{◌≡◌, IfOk, Option, option_map};
-ghost use Rattle.lq_yaml.specs.Scalar.{Found, front, plain_front, quoted_front, scalar_node};
-ghost use Rattle.lq_yaml.specs.Follows.{Gives, shown_front};
+ghost use Rattle.lq_yaml.specs.Line.{Found, front, plain_front, quoted_front, scalar_node};
+ghost use Rattle.lq_yaml.specs.Laws.{Gives, shown_front};
 
 use crate::chars::{text_of, trimmed};
 use crate::plain::{ends_with_colon, is_plain, plain_length, plain_node};

@@ -1,6 +1,5 @@
-ghost use Rattle.lq_yaml.specs.Examples.{ScalarExamples, LineExamples};
-ghost use Rattle.lq_yaml.specs.File.{LinesLayOutOne};
-ghost use Rattle.lq_yaml.specs.MadeLaws.{ScalarsAreFound, ContentsAreFound, FilesAreFound, LinesMeanOne};
+ghost use Rattle.lq_yaml.specs.File.{ScalarExamples, LineExamples, LinesLayOutOne};
+ghost use Rattle.lq_yaml.specs.Laws.{ScalarsAreFound, ContentsAreFound, FilesAreFound, LinesMeanOne};
 ghost use Rattle.lq_yaml.specs.Yaml.{TreesAreLaidOut};
 
 /// The lines of a file lay out at most one node.

@@ -1,7 +1,6 @@
 ghost use Rattle.std.specs.Prelude.{◌≡◌, ◌+◌, ◌<◌, ◌≤◌, ◌^◌, IfOk, IfSome, Some, None, length, option_map};
 ghost use Rattle.lq_yaml.specs.Line.{blank_tokens, base_of, parent_of, without_block, is_marker, mode_after, content_tokens, has_tab, line_by, line_tokens};
-ghost use Rattle.lq_yaml.specs.Follows.{shown_line};
-ghost use Rattle.lq_yaml.specs.Shallow.{Shows};
+ghost use Rattle.lq_yaml.specs.Laws.{shown_line, Shows};
 
 use crate::chars::{begins_with, spaces, text_of, trimmed, without_blanks, without_spaces};
 use crate::entry::tokens_at;

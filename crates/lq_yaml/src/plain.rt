@@ -1,6 +1,6 @@
 ghost use Rattle.std.specs.Prelude.{◌≡◌, ◌≤◌, ◌&&◌, length, cond, Some, None};
 ghost use Rattle.std.specs.Str.Parse.{signed_digits_value};
-ghost use Rattle.lq_yaml.specs.Scalar.{stops, plain_length, is_plain, begins_otherwise, ends_with_colon};
+ghost use Rattle.lq_yaml.specs.Line.{stops, plain_length, is_plain, begins_otherwise, ends_with_colon};
 ghost use Rattle.lq_yaml.specs.Meaning.{is_mark, is_whole, is_begun, is_digit, fits_128, plain_node};
 ghost use Rattle.std.specs.List.{list_all};
 

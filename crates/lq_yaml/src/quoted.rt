@@ -1,7 +1,7 @@
 ghost use Rattle.std.specs.Prelude.{◌≡◌, ◌<◌, IfOk, IfSome, length};
-ghost use Rattle.lq_yaml.specs.Scalar.{single, double, by_code, by_escape};
+ghost use Rattle.lq_yaml.specs.Line.{single, double, by_code, by_escape};
 ghost use Rattle.lq_yaml.specs.Meaning.{escaped, hex_digit, coded};
-ghost use Rattle.lq_yaml.specs.Follows.{one, Gives, Follows};
+ghost use Rattle.lq_yaml.specs.Laws.{one, Gives, Follows};
 
 use lq_base::NoMemory;
 use std::alloc::Global;

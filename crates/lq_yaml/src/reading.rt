@@ -1,14 +1,12 @@
 ghost use Rattle.std.specs.Prelude.{◌≡◌, ◌↔◌, ◌⊎◌, ℕ, IfOk, IfErr, Ok, Err, map, chars};
 ghost use Rattle.std.specs.Str.Lines.{lines};
 ghost use Rattle.std.specs.Str.{IsUtf8};
-ghost use Rattle.lq_tree.specs.Tree.{IsTree};
+ghost use Rattle.lq_tree.specs.Json.{IsTree};
 ghost use Rattle.lq_tree.specs.declared.node.Node.{Node};
 ghost use Rattle.lq_yaml.specs.declared.fault.YamlFault.TheVariants.{NotUtf8, Line, TooDeep, OutOfMemory};
-ghost use Rattle.lq_yaml.specs.DeepView.{state_of, shown_lines};
+ghost use Rattle.lq_yaml.specs.Yaml.{state_of, shown_lines, line_step, file_start, text_tree, yaml_tree};
 ghost use Rattle.lq_yaml.specs.File.{lines_of, IsRead, IsWrong, IsTooDeep, Blames};
-ghost use Rattle.lq_yaml.specs.LineMachine.{line_step, file_start};
-ghost use Rattle.lq_yaml.specs.Shallow.{Enters};
-ghost use Rattle.lq_yaml.specs.Yaml.{text_tree, yaml_tree};
+ghost use Rattle.lq_yaml.specs.Laws.{Enters};
 
 use crate::builder::Builder;
 use crate::chars::chars_of;

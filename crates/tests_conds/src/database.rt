@@ -1,5 +1,5 @@
 ghost use Rattle.std.specs.Prelude.{◌≡◌, true};
-ghost use Rattle.lq_model.specs.Statement.{is_statement};
+ghost use Rattle.lq_model.specs.Step.{is_statement};
 
 use lq_base::{Dialect, Exec, Items, Text, Tracked};
 use lq_model::{By, SqlText, Statement};

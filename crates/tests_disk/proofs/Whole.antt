@@ -4,9 +4,8 @@ use Rattle.std.specs.List.{list_any}
 use Rattle.std.specs.Prelude.{List, None, Ok, Some, [], cond, length, map, true, ◌||◌, ◌∷◌, ◌≡◌}
 use Rattle.lq_base.specs.Name.{is_named}
 use Rattle.lq_base.specs.declared.name.Name.{Name}
-use Rattle.lq_model.specs.Catalogue.{Catalogue, Table}
-use Rattle.lq_model.specs.Names.{is_in}
-use Rattle.lq_model.specs.Query.{answer}
+use Rattle.lq_model.specs.Catalogue.{Catalogue, Table, is_in}
+use Rattle.lq_model.specs.Views.{answer}
 use Rattle.lq_model.specs.declared.caller.By.{By}
 use Rattle.lq_model.specs.declared.caller.By.TheVariants.{Program}
 use Rattle.lq_model.specs.declared.column.Column.{Column}

@@ -2,8 +2,7 @@ ghost use Rattle.std.specs.List.{find, list_any};
 ghost use Rattle.std.specs.Option.{option_copied};
 ghost use Rattle.std.specs.Prelude.{◌≡◌, IfOk, None, length, map, true};
 ghost use Rattle.lq_base.specs.Name.{is_named};
-ghost use Rattle.lq_model.specs.Names.{is_in};
-ghost use Rattle.lq_model.specs.Row.{by_name, is_null};
+ghost use Rattle.lq_model.specs.Catalogue.{is_in, by_name, is_null};
 ghost use Rattle.lq_model.specs.declared.query.Wanted.TheVariants as wanted;
 
 use lq_base::{Duplicate, Items, Name, NoMemory, Value};

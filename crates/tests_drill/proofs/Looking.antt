@@ -8,9 +8,8 @@ use Rattle.lq_base.specs.declared.dialect.Dialect.{Dialect}
 use Rattle.lq_base.specs.declared.tracking.Lock.{Lock}
 use Rattle.lq_drill.proofs.Machines.{answered_is}
 use Rattle.lq_drill.specs.Player.{Moves, answer_of}
-use Rattle.lq_drill.specs.Shows.{IsHolders, LetsBe}
-use Rattle.lq_store.specs.Journal.{Entry}
-use Rattle.lq_store.specs.State.{State, Transaction, is_open, other, other_in}
+use Rattle.lq_drill.specs.Faults.{IsHolders, LetsBe}
+use Rattle.lq_store.specs.Journal.{Entry, State, Transaction, is_open, other, other_in}
 use Rattle.lq_turns.specs.Schedule.{Holder, Job, Machine, answers_with, begins, first_step, has_begun, later_step, makes, moved}
 use Rattle.lq_turns.specs.Session.{session_on}
 use Rattle.tests_drill.specs.Looks.{looked, looks, stands}

@@ -1,5 +1,5 @@
 ghost use Rattle.std.specs.Prelude.{◌≡◌, IsTrue};
-ghost use Rattle.lq_store.specs.State.{other};
+ghost use Rattle.lq_store.specs.Journal.{other};
 ghost use Rattle.tests_drill.specs.Looks.{looked};
 
 use lq_base::Dialect;

@@ -1,5 +1,5 @@
 ghost use Rattle.std.specs.Prelude.{◌≤◌};
-ghost use Rattle.lq_base.specs.Character.{char_count};
+ghost use Rattle.lq_base.specs.Number.{char_count};
 ghost use Rattle.lq_players.specs.AtOnce.{HasShortTag};
 
 use lq_base::{Command, Target, Text, char_count};

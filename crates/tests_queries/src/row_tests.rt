@@ -1,5 +1,5 @@
 ghost use Rattle.std.specs.Prelude.{◌≡◌};
-ghost use Rattle.lq_model.specs.Row.{row_fits};
+ghost use Rattle.lq_model.specs.Catalogue.{row_fits};
 
 use crate::made::{columns, row};
 use crate::shown::show_reason;

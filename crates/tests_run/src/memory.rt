@@ -1,6 +1,5 @@
 ghost use Rattle.std.specs.Prelude.{◌≡◌, ◌≤◌, None, Ok, IfOk, IsErrOf, OnOk};
-ghost use Rattle.lq_outside.specs.Count.{Rose};
-ghost use Rattle.lq_outside.specs.Folder.{IsWithinLimit};
+ghost use Rattle.lq_outside.specs.Forms.{Rose, IsWithinLimit};
 ghost use Rattle.lq_outside.specs.declared.files.FilesFault.TheVariants.{Failed};
 
 use crate::running::{CI, NONE, Step, assert_step, run_by};

@@ -6,7 +6,7 @@ use Rattle.lq_base.specs.declared.dialect.Dialect.{Dialect}
 use Rattle.lq_hand.specs.Hand.{IsReady, place_of}
 use Rattle.lq_hand.specs.declared.hand.Hand.{Hand}
 use Rattle.lq_run.specs.Steps.{no_turn}
-use Rattle.lq_store.specs.State.{Transaction, is_open, other_in}
+use Rattle.lq_store.specs.Journal.{Transaction, is_open, other_in}
 use Rattle.lq_turns.specs.Rest.{Turns}
 use Rattle.tests_runner.specs.Open.{is_its}
 

@@ -1,6 +1,6 @@
 ghost use Rattle.std.specs.Prelude.{◌≡◌, ◌==◌, ◌≤◌, IfOk, IsTrue, None, false, true};
 ghost use Rattle.lq_run.specs.Steps.{no_turn};
-ghost use Rattle.lq_store.specs.State.{is_open, other};
+ghost use Rattle.lq_store.specs.Journal.{is_open, other};
 ghost use Rattle.tests_runner.specs.Open.{is_its};
 
 use lq_base::{Dialect, Duplicate, Identity, Lock, Text};

@@ -1,4 +1,4 @@
-ghost use Rattle.lq_model.specs.Canon.{IsFinished};
+ghost use Rattle.lq_model.specs.Changes.{IsFinished};
 
 use lq_base::{NoMemory, Text};
 use lq_canon::{checksum, old_checksum};

@@ -1,6 +1,6 @@
 -- What a test notes of a store.
-use Rattle.std.specs.Prelude.{◌≡◌, ◌==◌, Bool, IsTrue, Option, None, Some, false, ℕ}
-use Rattle.lq_store.specs.State.{State, is_open}
+use Rattle.std.specs.Prelude.{Bool, IsTrue, None, Option, Some, false, ℕ, ◌==◌, ◌≡◌}
+use Rattle.lq_store.specs.Journal.{State, is_open}
 
 -- by the note, the session has a transaction open
 abbrev pub is_noted : ℕ → Option ℕ → Bool

@@ -1,5 +1,5 @@
 ghost use Rattle.std.specs.Prelude.{◌≡◌, IsTrue, false, true};
-ghost use Rattle.lq_store.specs.State.{is_open};
+ghost use Rattle.lq_store.specs.Journal.{is_open};
 ghost use Rattle.tests_store.specs.Noted.{IsNoted, is_noted};
 
 use lq_base::{Items, Name, Text};

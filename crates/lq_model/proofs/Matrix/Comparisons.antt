@@ -10,7 +10,7 @@ use Rattle.lq_base.specs.declared.reason.Reason.TheVariants.{WrongKind}
 use Rattle.lq_model.specs.Catalogue.{Catalogue}
 use Rattle.lq_model.specs.Comparison.{compares_wrongly}
 use Rattle.lq_model.specs.Plan.{decide}
-use Rattle.lq_model.specs.Query.{answer}
+use Rattle.lq_model.specs.Views.{answer}
 use Rattle.lq_model.specs.declared.caller.By.TheVariants.{User}
 use Rattle.lq_model.specs.declared.column.Column.{Column}
 use Rattle.lq_model.specs.declared.query.Wanted.TheVariants as wanted

@@ -10,7 +10,7 @@ use Rattle.lq_base.specs.declared.value.Value.{Value}
 use Rattle.lq_base.specs.declared.value.Value.TheVariants as value
 use Rattle.lq_model.specs.Catalogue.{Catalogue}
 use Rattle.lq_model.specs.Plan.{decide}
-use Rattle.lq_model.specs.Query.{answer}
+use Rattle.lq_model.specs.Views.{answer}
 use Rattle.lq_model.specs.declared.caller.By.TheVariants.{User}
 use Rattle.lq_model.specs.declared.query.Wanted.TheVariants as wanted
 use Rattle.lq_model.specs.declared.statement.Statement.{Statement}

@@ -1,7 +1,7 @@
 -- Worked examples: a literal, a next number or a row's value that is out of its kind.
 use Rattle.std.specs.List.{flat_map}
 use Rattle.std.specs.Prelude.{List, None, Some, [], codes, false, neg_ℤ, pos, refl, true, ℕ, ◌∷◌, ◌≡◌}
-use Rattle.lq_base.specs.Character.{char_count}
+use Rattle.lq_base.specs.Number.{char_count}
 use Rattle.lq_base.specs.Value.{into_kind, is_value_of}
 use Rattle.lq_base.specs.declared.dialect.Dialect.TheVariants.{Mysql, Postgresql}
 use Rattle.lq_base.specs.declared.kind.Kind.{Kind}

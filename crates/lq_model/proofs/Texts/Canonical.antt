@@ -1,7 +1,7 @@
 -- Worked examples: the canonical texts of changes, and of each sort of value.
 use Rattle.std.specs.Prelude.{◌≡◌, ◌++◌, [], ◌∷◌, codes, false, length, neg_ℤ, pos, refl, true}
 use Rattle.lq_model.proofs.Texts.Spell.{e_acute}
-use Rattle.lq_model.specs.Canon.{CanonicalChange, atom, canonical, canonical_changes, decimal_digits, list, map_of, no_pairs, no_values, numeral, number, pair, text, truth, value}
+use Rattle.lq_model.specs.Changes.{CanonicalChange, atom, canonical, canonical_changes, decimal_digits, list, map_of, no_pairs, no_values, numeral, number, pair, text, truth, value}
 
 abbrev drop_t : CanonicalChange
 drop_t = record { name = codes "dropTable"; pairs = pair (codes "tableName") (text (codes "t")) no_pairs }

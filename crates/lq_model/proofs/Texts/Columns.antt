@@ -5,18 +5,16 @@ use Rattle.lq_base.specs.declared.dialect.Dialect.TheVariants.{Mysql, Postgresql
 use Rattle.lq_base.specs.declared.kind.Kind.TheVariants as kind
 use Rattle.lq_base.specs.declared.literal.Literal.TheVariants as literal
 use Rattle.lq_base.specs.Kind.{plain_kind, sized_kind}
-use Rattle.lq_base.specs.SqlLexeme.{lexemes, length_at}
+use Rattle.lq_base.specs.Sql.{lexemes, length_at}
 use Rattle.lq_model.proofs.ExampleWorld.{def, id, number, numbered_def, up}
 use Rattle.lq_model.proofs.Texts.Spell.{Mean, Spell, SpellNothing}
-use Rattle.lq_model.specs.Phrase.{words as phrase_words}
-use Rattle.lq_model.specs.Quoting.{name_text, quoted_text}
-use Rattle.lq_model.specs.TestText.{literal_text}
+use Rattle.lq_model.specs.TestText.{words as phrase_words, name_text, quoted_text, literal_text}
 use Rattle.lq_model.specs.StatementText.{column_text}
 use Rattle.lq_model.specs.SqlText.{statement_in}
 use Rattle.lq_model.specs.SqlWord.{words, kind_of_word, unquoted}
 use Rattle.lq_model.specs.SqlStatement.{statement}
 use Rattle.lq_model.specs.SqlAlter.{alter, alter_table, add, add_column, drop_part, rename_part, rename_column, rename_table_to, alter_column, set_part, unset_part, modify, new_name}
-use Rattle.lq_model.specs.SqlColumn.{added_column, stated_column, column_clause, identity, target}
+use Rattle.lq_model.specs.SqlTable.{added_column, stated_column, column_clause, identity, target}
 use Rattle.lq_model.specs.SqlParser.{same_kind, sees, after, expect, ended, many, many_of, led_by}
 use Rattle.lq_model.specs.SqlPart.{name, name_of, column_kind, kind_with, sized_with, kind_number, literal as literal_rule, number as number_rule, object}
 use Rattle.lq_model.specs.declared.statement.Statement.TheVariants.{AddColumn, DropColumn, DropDefault, DropNotNull, Modify, RenameColumn, SetDefault, SetNotNull}

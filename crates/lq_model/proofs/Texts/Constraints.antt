@@ -3,22 +3,19 @@ use Rattle.std.specs.Prelude.{◌≡◌, ◌++◌, None, Some, [], ◌∷◌, co
 use Rattle.lq_base.specs.declared.dialect.Dialect.TheVariants.{Mysql, Postgresql}
 use Rattle.lq_base.specs.declared.kind.Kind.TheVariants as kind
 use Rattle.lq_base.specs.Kind.{plain_kind}
-use Rattle.lq_base.specs.SqlLexeme.{lexemes, length_at}
+use Rattle.lq_base.specs.Sql.{lexemes, length_at}
 use Rattle.lq_model.proofs.ExampleWorld.{def, foreign_to, id, key_on, unique_on, up}
 use Rattle.lq_model.proofs.PlainText.{plain_cut, plain_front}
 use Rattle.lq_model.proofs.Texts.Spell.{Mean, Spell, SpellNothing}
-use Rattle.lq_model.specs.DefaultName.{key_name, unique_name, foreign_name}
-use Rattle.lq_model.specs.Phrase.{words as phrase_words}
-use Rattle.lq_model.specs.Quoting.{name_text, quoted_text}
+use Rattle.lq_model.specs.Sound.{key_name, unique_name, foreign_name}
+use Rattle.lq_model.specs.TestText.{words as phrase_words, name_text, quoted_text}
 use Rattle.lq_model.specs.StatementText.{key_text, unique_text, foreign_text}
 use Rattle.lq_model.specs.SqlText.{statement_in}
 use Rattle.lq_model.specs.SqlWord.{words, kind_of_word, unquoted}
-use Rattle.lq_model.specs.SqlStatement.{statement}
+use Rattle.lq_model.specs.SqlStatement.{statement, create}
 use Rattle.lq_model.specs.SqlAlter.{alter, alter_table, add, add_constraint, drop_part}
-use Rattle.lq_model.specs.SqlColumn.{stated_column, column_clause, target, column_key, column_unique, column_foreign, foreign_to as foreign_stated}
+use Rattle.lq_model.specs.SqlTable.{stated_column, column_clause, target, column_key, column_unique, column_foreign, foreign_to as foreign_stated, create_table, table_item, column_item, table_of}
 use Rattle.lq_model.specs.SqlConstraint.{table_constraint, stated_name, key, unique, foreign, on_delete}
-use Rattle.lq_model.specs.SqlCreate.{create}
-use Rattle.lq_model.specs.SqlTable.{create_table, table_item, column_item, table_of}
 use Rattle.lq_model.specs.SqlParser.{same_kind, sees, after, expect, ended, enclosed, separated, many, many_of, led_by}
 use Rattle.lq_model.specs.SqlPart.{name, name_of, column_kind, object}
 use Rattle.lq_model.specs.declared.statement.Statement.TheVariants.{AddForeignKey, AddPrimaryKey, AddUnique, CreateTable, DropConstraint, DropForeignKey, DropPrimaryKey, DropUnique}

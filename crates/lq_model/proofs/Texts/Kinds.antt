@@ -5,17 +5,16 @@ use Rattle.lq_base.specs.declared.dialect.Dialect.TheVariants.{Mysql, Postgresql
 use Rattle.lq_base.specs.declared.kind.Kind.{Kind}
 use Rattle.lq_base.specs.declared.kind.Kind.TheVariants.{BigInt, Boolean, Decimal, Int, Moment, Text, Varchar}
 use Rattle.lq_base.specs.Kind.{plain_kind, sized_kind, decimal_kind}
-use Rattle.lq_base.specs.SqlLexeme.{lexemes, length_at}
+use Rattle.lq_base.specs.Sql.{lexemes, length_at}
 use Rattle.lq_model.proofs.ExampleWorld.{def}
 use Rattle.lq_model.proofs.Texts.Spell.{Mean, Spell, SpellNothing}
-use Rattle.lq_model.specs.Phrase.{words as phrase_words}
-use Rattle.lq_model.specs.Quoting.{name_text, quoted_text}
+use Rattle.lq_model.specs.TestText.{words as phrase_words, name_text, quoted_text}
 use Rattle.lq_model.specs.StatementText.{column_text}
 use Rattle.lq_model.specs.SqlText.{statement_in}
 use Rattle.lq_model.specs.SqlWord.{words, kind_of_word, unquoted}
 use Rattle.lq_model.specs.SqlStatement.{statement}
 use Rattle.lq_model.specs.SqlAlter.{alter, alter_table, add, add_column}
-use Rattle.lq_model.specs.SqlColumn.{added_column, stated_column, column_clause}
+use Rattle.lq_model.specs.SqlTable.{added_column, stated_column, column_clause}
 use Rattle.lq_model.specs.SqlParser.{same_kind, sees, after, expect, ended, many, many_of, led_by}
 use Rattle.lq_model.specs.SqlPart.{name, name_of, column_kind, kind_with, sized_with, decimal_with, kind_number, object}
 use Rattle.lq_model.specs.declared.statement.Statement.{Statement}

@@ -5,11 +5,9 @@ use Rattle.lq_base.specs.declared.dialect.Dialect.TheVariants.{Mysql, Postgresql
 use Rattle.lq_base.specs.declared.literal.Literal.{Literal}
 use Rattle.lq_base.specs.declared.literal.Literal.TheVariants.{Bool, Fixed, Int, Null, Text}
 use Rattle.lq_base.specs.Number.{number_of}
-use Rattle.lq_base.specs.SqlLexeme.{lexemes, length_at}
+use Rattle.lq_base.specs.Sql.{lexemes, length_at}
 use Rattle.lq_model.proofs.Texts.Spell.{e_acute, Mean, Spell, SpellNothing}
-use Rattle.lq_model.specs.Phrase.{words as phrase_words}
-use Rattle.lq_model.specs.Quoting.{name_text, quoted_text, string_text}
-use Rattle.lq_model.specs.TestText.{literal_text}
+use Rattle.lq_model.specs.TestText.{words as phrase_words, name_text, quoted_text, string_text, literal_text}
 use Rattle.lq_model.specs.SqlText.{statement_in}
 use Rattle.lq_model.specs.SqlWord.{words, kind_of_word, unquoted}
 use Rattle.lq_model.specs.SqlStatement.{statement}

@@ -2,18 +2,16 @@
 use Rattle.std.specs.Prelude.{List, None, [], codes, map, refl, replicate, ℕ, ◌++◌, ◌∷◌}
 use Rattle.std.specs.Char.{to_ascii_lowercase}
 use Rattle.lq_base.specs.declared.dialect.Dialect.TheVariants.{Mysql, Postgresql}
-use Rattle.lq_base.specs.SqlLexeme.{lexemes, length_at}
+use Rattle.lq_base.specs.Sql.{lexemes, length_at}
 use Rattle.lq_model.proofs.Texts.Spell.{e_acute, Mean, Spell, SpellNothing}
-use Rattle.lq_model.specs.Phrase.{words as phrase_words}
-use Rattle.lq_model.specs.Quoting.{name_text, quoted_text}
+use Rattle.lq_model.specs.TestText.{words as phrase_words, name_text, quoted_text}
 use Rattle.lq_model.specs.SqlText.{statement_in}
 use Rattle.lq_model.specs.SqlWord.{words, kind_of_word, unquoted}
 use Rattle.lq_model.specs.SqlStatement.{statement}
-use Rattle.lq_model.specs.SqlDrop.{drop_index, drop_object}
+use Rattle.lq_model.specs.SqlAlter.{drop_index, drop_object, alter, alter_table, new_name, rename_part, rename_table_to}
 use Rattle.lq_model.specs.SqlParser.{same_kind, sees, after, expect, ended}
 use Rattle.lq_model.specs.SqlPart.{name, name_of, object}
 use Rattle.lq_model.specs.declared.statement.Statement.TheVariants.{DropIndex, DropTable, RenameTable}
-use Rattle.lq_model.specs.SqlAlter.{alter, alter_table, new_name, rename_part, rename_table_to}
 
 -- a quote in a name stands twice; capitals, blanks and reserved words may stand in quotes; 63 bytes at most
 pub quoted_names :

@@ -3,18 +3,14 @@ use Rattle.std.specs.Prelude.{◌-◌, ◌^◌, None, Some, [], ◌∷◌, codes
 use Rattle.std.specs.Fmt.{digits}
 use Rattle.lq_base.specs.declared.dialect.Dialect.TheVariants.{Mysql, Postgresql}
 use Rattle.lq_base.specs.Number.{number_of}
-use Rattle.lq_base.specs.SqlLexeme.{lexemes, length_at}
+use Rattle.lq_base.specs.Sql.{lexemes, length_at}
 use Rattle.lq_model.proofs.ExampleWorld.{id, index_on, up, where_id}
 use Rattle.lq_model.proofs.Texts.Spell.{Spell, SpellNothing}
-use Rattle.lq_model.specs.Phrase.{words as phrase_words}
-use Rattle.lq_model.specs.Quoting.{name_text, quoted_text}
-use Rattle.lq_model.specs.TestText.{literal_text, query_text, test_text}
+use Rattle.lq_model.specs.TestText.{words as phrase_words, name_text, quoted_text, literal_text, query_text, test_text}
 use Rattle.lq_model.specs.SqlText.{statement_in}
 use Rattle.lq_model.specs.SqlWord.{words, kind_of_word, unquoted}
-use Rattle.lq_model.specs.SqlStatement.{statement}
-use Rattle.lq_model.specs.SqlAlter.{alter, alter_sequence, alter_view, new_name}
-use Rattle.lq_model.specs.SqlCreate.{create, create_index, create_sequence, create_view, step, whole}
-use Rattle.lq_model.specs.SqlDrop.{drop_index, drop_object}
+use Rattle.lq_model.specs.SqlStatement.{statement, create, create_index, create_sequence, create_view, step, whole}
+use Rattle.lq_model.specs.SqlAlter.{alter, alter_sequence, alter_view, new_name, drop_index, drop_object}
 use Rattle.lq_model.specs.SqlParser.{same_kind, sees, after, expect, ended, enclosed, separated, many, many_of, led_by}
 use Rattle.lq_model.specs.SqlPart.{name, name_of, literal as literal_rule, number as number_rule, object}
 use Rattle.lq_model.specs.SqlQuery.{columns, count, query, selected, sees_count}

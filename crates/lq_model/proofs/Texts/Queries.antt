@@ -2,12 +2,10 @@
 use Rattle.std.specs.Prelude.{◌≡◌, None, Some, Option, [], ◌∷◌, codes, map, pos, refl, replicate}
 use Rattle.std.specs.Fmt.{digits}
 use Rattle.lq_base.specs.declared.dialect.Dialect.TheVariants.{Mysql, Postgresql}
-use Rattle.lq_base.specs.SqlLexeme.{lexemes, length_at}
+use Rattle.lq_base.specs.Sql.{lexemes, length_at}
 use Rattle.lq_model.proofs.ExampleWorld.{id, up, where_id}
 use Rattle.lq_model.proofs.Texts.Spell.{SpellQueries}
-use Rattle.lq_model.specs.Phrase.{words as phrase_words}
-use Rattle.lq_model.specs.Quoting.{name_text, quoted_text}
-use Rattle.lq_model.specs.TestText.{literal_text, query_text, test_text}
+use Rattle.lq_model.specs.TestText.{words as phrase_words, name_text, quoted_text, literal_text, query_text, test_text}
 use Rattle.lq_model.specs.SqlText.{query_in}
 use Rattle.lq_model.specs.SqlWord.{words, kind_of_word, unquoted}
 use Rattle.lq_model.specs.SqlParser.{same_kind, sees, after, expect, ended, separated, many, many_of, led_by}

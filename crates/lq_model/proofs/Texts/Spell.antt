@@ -1,9 +1,9 @@
 -- What the examples say of a list of statements, queries or tests beside their texts.
 use Rattle.std.specs.Prelude.{◌≡◌, ℕ, true, List, [], ◌∷◌, map, Some, None}
 use Rattle.lq_base.specs.declared.dialect.Dialect.{Dialect}
-use Rattle.lq_model.specs.Spelled.{is_spelled}
+use Rattle.lq_model.specs.Comparison.{is_spelled}
 use Rattle.lq_model.specs.SqlText.{query_in, statement_in, test_in}
-use Rattle.lq_model.specs.Statement.{is_query, is_statement}
+use Rattle.lq_model.specs.Step.{is_query, is_statement}
 use Rattle.lq_model.specs.StatementText.{text_of}
 use Rattle.lq_model.specs.TestText.{query_text, test_text}
 use Rattle.lq_model.specs.declared.query.Query.{Query}

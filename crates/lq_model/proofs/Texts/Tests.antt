@@ -3,13 +3,11 @@ use Rattle.std.specs.Prelude.{◌≡◌, ◌++◌, ℕ, zero, suc, None, Some, L
 use Rattle.std.specs.Fmt.{digits}
 use Rattle.lq_base.specs.declared.dialect.Dialect.TheVariants.{Mysql, Postgresql}
 use Rattle.lq_base.specs.declared.literal.Literal.TheVariants as literal
-use Rattle.lq_base.specs.SqlLexeme.{lexemes, length_at}
+use Rattle.lq_base.specs.Sql.{lexemes, length_at}
 use Rattle.lq_base.specs.Number.{number_of}
 use Rattle.lq_model.proofs.ExampleWorld.{id, number, text, up}
 use Rattle.lq_model.proofs.Texts.Spell.{SpellTests}
-use Rattle.lq_model.specs.Phrase.{words as phrase_words}
-use Rattle.lq_model.specs.Quoting.{name_text, quoted_text, string_text}
-use Rattle.lq_model.specs.TestText.{literal_text, test_text}
+use Rattle.lq_model.specs.TestText.{words as phrase_words, name_text, quoted_text, string_text, literal_text, test_text}
 use Rattle.lq_model.specs.SqlText.{test_in}
 use Rattle.lq_model.specs.SqlWord.{words, kind_of_word, unquoted}
 use Rattle.lq_model.specs.SqlParser.{same_kind, sees, after, expect, ended, many, many_of, led_by}

@@ -1,12 +1,12 @@
 -- Worked examples: blanks and comments between words, words in any case, and the end of a text.
 use Rattle.std.specs.Prelude.{ℕ, List, [], ◌∷◌, codes, map, refl}
 use Rattle.lq_base.specs.declared.dialect.Dialect.TheVariants.{Mysql, Postgresql}
-use Rattle.lq_base.specs.SqlLexeme.{lexemes, length_at}
+use Rattle.lq_base.specs.Sql.{lexemes, length_at}
 use Rattle.lq_model.proofs.Texts.Spell.{Mean, SpellNothing}
 use Rattle.lq_model.specs.SqlText.{statement_in}
 use Rattle.lq_model.specs.SqlWord.{words, kind_of_word, unquoted}
 use Rattle.lq_model.specs.SqlStatement.{statement}
-use Rattle.lq_model.specs.SqlDrop.{drop_object}
+use Rattle.lq_model.specs.SqlAlter.{drop_object}
 use Rattle.lq_model.specs.SqlParser.{same_kind, sees, after, expect, ended}
 use Rattle.lq_model.specs.SqlPart.{name, name_of, object}
 use Rattle.lq_model.specs.declared.statement.Statement.{Statement}

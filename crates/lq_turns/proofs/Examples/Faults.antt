@@ -3,7 +3,7 @@ use Rattle.std.specs.Prelude.{List, None, Option, Some, [], codes, false, refl, 
 use Rattle.lq_base.specs.declared.tracking.Exec.TheVariants.{Executed}
 use Rattle.lq_base.specs.declared.tracking.Tracked.{Tracked}
 use Rattle.lq_turns.specs.Faults.{faults}
-use Rattle.lq_turns.specs.Pending.{pending}
+use Rattle.lq_turns.specs.Printed.{pending}
 use Rattle.lq_turns.specs.Set.{Set}
 use Rattle.lq_turns.specs.declared.fault.Fault.TheVariants.{Changed, Twice}
 use Rattle.lq_turns.proofs.Examples.Given.{Given, changeset, named, row}

@@ -1,6 +1,6 @@
 -- What the examples speak of: changes told by their statements, changesets, conditions, rows.
 use Rattle.std.specs.Prelude.{Bool, List, None, Ok, Option, Result, Some, [], codes, false, map, pos, true, ℕ, ◌∷◌}
-use Rattle.lq_base.specs.Text.{is_text}
+use Rattle.lq_base.specs.Name.{is_text}
 use Rattle.lq_base.specs.declared.identity.Identity.{Identity}
 use Rattle.lq_base.specs.declared.kind.Kind.TheVariants as kind
 use Rattle.lq_base.specs.declared.literal.Literal.TheVariants as literal
@@ -15,7 +15,7 @@ use Rattle.lq_model.specs.declared.statement.Statement.{Statement}
 use Rattle.lq_model.specs.declared.statement.Statement.TheVariants.{CreateTable, DropTable, Insert}
 use Rattle.lq_track.specs.Database.{Database}
 use Rattle.lq_track.specs.Lock.{free}
-use Rattle.lq_turns.specs.Contents.{Contents}
+use Rattle.lq_turns.specs.Deed.{Contents}
 use Rattle.lq_turns.specs.Set.{Changelog, Condition, Meaning, Set, is_old_form, sum_by_form}
 use Rattle.lq_base.specs.declared.run.OnFail.{OnFail}
 use Rattle.lq_base.specs.declared.run.OnFail.TheVariants.{Halt}

@@ -9,7 +9,7 @@ use Rattle.lq_base.specs.declared.tracking.Tracked.{Tracked}
 use Rattle.lq_model.specs.Plan.{decide}
 use Rattle.lq_model.specs.declared.statement.Statement.{Statement}
 use Rattle.lq_model.specs.declared.statement.Statement.TheVariants.{DropTable}
-use Rattle.lq_turns.specs.Rollback.{all_rolled, rows_kept, rows_undone, undo_turns}
+use Rattle.lq_turns.specs.Script.{all_rolled, rows_kept, rows_undone, undo_turns}
 use Rattle.lq_turns.specs.Set.{Set}
 use Rattle.lq_turns.specs.Settle.{all_settled}
 use Rattle.lq_turns.specs.Turn.{turn_calls}

@@ -1,4 +1,4 @@
-use Rattle.lq_turns.specs.Promised.{meaning}
+use Rattle.lq_turns.specs.Set.{meaning}
 use Rattle.laws_rehearsal.proofs.Again.{rehearsal_returns}
 use Rattle.laws_rehearsal.proofs.laws.rehearsal_returns.Goals as goal
 

@@ -1,4 +1,4 @@
-use Rattle.lq_turns.specs.Promised.{meaning}
+use Rattle.lq_turns.specs.Set.{meaning}
 use Rattle.laws_repair.proofs.Parts.{parts_return}
 use Rattle.laws_repair.proofs.laws.parts_return.Goals as goal
 

@@ -1,4 +1,4 @@
-use Rattle.lq_turns.specs.Promised.{meaning}
+use Rattle.lq_turns.specs.Set.{meaning}
 use Rattle.laws_repair.proofs.Updates.{update_repairs}
 use Rattle.laws_repair.proofs.laws.update_repairs.Goals as goal
 

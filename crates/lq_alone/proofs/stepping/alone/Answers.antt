@@ -1,9 +1,9 @@
 use Rattle.std.proofs.Common.{◌≡◌, ap, inl, inr, le_trans, refl, rules, subst, sym, ◌∙◌}
 use Rattle.std.specs.Prelude.{Err}
 use Rattle.lq_alone.proofs.Along.{begun_with, crashes_none, crashes_on, goes_on, leaves_all, none_of, none_open, stops_at}
-use Rattle.lq_alone.specs.Alone.{RanAlone}
-use Rattle.lq_store.specs.State.{is_open}
-use Rattle.lq_turns.specs.Held.{StandsFor}
+use Rattle.lq_alone.specs.One.{RanAlone}
+use Rattle.lq_store.specs.Journal.{is_open}
+use Rattle.lq_turns.specs.Schedule.{StandsFor}
 use Rattle.lq_alone.proofs.stepping.alone.Goals as goal
 
 pub loop-init : goal.loop-init

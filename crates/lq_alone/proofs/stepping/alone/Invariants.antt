@@ -1,12 +1,11 @@
 use Rattle.std.proofs.Common.{◌≡◌}
 use Rattle.std.specs.Prelude.{IsTrue, false, is_some, nat_eq, true, ℕ, ◌≤◌}
 use Rattle.lq_drill.specs.Drill.{IsReady}
-use Rattle.lq_alone.specs.Alone.{Follows, LeftAlone}
+use Rattle.lq_alone.specs.One.{Follows, LeftAlone}
 use Rattle.lq_drill.specs.Player.{MakesNone}
-use Rattle.lq_store.specs.Crashes.{CrashesLeave}
-use Rattle.lq_store.specs.State.{is_open}
+use Rattle.lq_store.specs.Journal.{CrashesLeave, is_open}
 use Rattle.lq_track.specs.Database.{Database}
-use Rattle.lq_turns.specs.Held.{StandsFor}
+use Rattle.lq_turns.specs.Schedule.{StandsFor}
 use Rattle.lq_alone.proofs.stepping.alone.Given as goal
 
 -- it follows the machine

@@ -1,6 +1,6 @@
 use Rattle.std.proofs.Common.{drop, not, ◌≡◌}
 use Rattle.std.specs.List.{list_any}
-use Rattle.lq_arm.specs.Known.{has_name}
+use Rattle.lq_arm.specs.Verdict.{has_name}
 use Rattle.lq_arm.proofs.columns.lacks_known.Given as goal
 
 abbrev pub invariant-loop-name : goal.invariant-loop-name

@@ -1,7 +1,7 @@
 use Rattle.std.proofs.Common.{drop, map, ◌||◌, ◌≡◌}
 use Rattle.lq_base.specs.declared.name.Name.{Name}
-use Rattle.lq_model.specs.Names.{is_in}
-use Rattle.lq_arm.specs.Known.{has_name}
+use Rattle.lq_model.specs.Catalogue.{is_in}
+use Rattle.lq_arm.specs.Verdict.{has_name}
 use Rattle.lq_arm.proofs.columns.names_of.Given as goal
 
 abbrev pub invariant-loop-column : goal.invariant-loop-column

@@ -1,7 +1,7 @@
 use Rattle.std.proofs.Common.{drop, ◌||◌, ◌≡◌}
 use Rattle.std.specs.List.{list_any}
-use Rattle.lq_model.specs.Names.{repeats}
-use Rattle.lq_arm.specs.Known.{has_name}
+use Rattle.lq_model.specs.Catalogue.{repeats}
+use Rattle.lq_arm.specs.Verdict.{has_name}
 use Rattle.lq_arm.proofs.columns.repeats.Given as goal
 
 abbrev pub invariant-loop-name : goal.invariant-loop-name

@@ -1,7 +1,7 @@
 use Rattle.std.proofs.Common.{not, sym, ◌∙◌}
 use Rattle.lq_back.proofs.Synced.{chosen, not_chosen}
 use Rattle.lq_back.proofs.sync_rows.has_no_row.Goals as goal
-use Rattle.lq_seen.specs.Selection.{is_selected}
+use Rattle.lq_seen.specs.View.{is_selected}
 use Rattle.lq_turns.specs.Set.{has_row}
 
 pub returns-then-is_selected : goal.returns-then-is_selected

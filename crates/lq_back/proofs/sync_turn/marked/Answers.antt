@@ -1,7 +1,7 @@
 use Rattle.std.proofs.Common.{rules, ◌≡◌, ◌∷◌}
 use Rattle.lq_seen.proofs.Mapped.{all_mapped, more_mapped}
 use Rattle.lq_back.proofs.sync_turn.marked.Goals as goal
-use Rattle.lq_back.specs.SyncTurn.{mark_of}
+use Rattle.lq_back.specs.Reversal.{mark_of}
 
 pub loop-row-preserved : goal.loop-row-preserved
 loop-row-preserved c =

@@ -1,7 +1,7 @@
 use Rattle.std.proofs.Common.{length, map, ◌≡◌, ◌++◌}
 use Rattle.std.specs.Prelude.{reverse}
 use Rattle.lq_back.proofs.sync_turn.push_inserts.Given as goal
-use Rattle.lq_back.specs.SyncTurn.{insert_call}
+use Rattle.lq_back.specs.Reversal.{insert_call}
 
 abbrev pub invariant-loop-row : goal.invariant-loop-row
 invariant-loop-row l = map insert_call l.rows ++ reverse l.calls ≡ map insert_call l.fn.rows ++ reverse l.fn.calls

@@ -1,6 +1,6 @@
 use Rattle.std.proofs.Common.{subst}
 use Rattle.lq_base.specs.declared.literal.Literal.TheVariants as literal
-use Rattle.lq_base.specs.Into.{Goes}
+use Rattle.lq_base.specs.Spells.{Goes}
 use Rattle.lq_base.specs.Value.{into_kind}
 use Rattle.lq_base.proofs.IntoLemmas.{goes_as_moment, goes_as_number, of_kind-from_Goes}
 use Rattle.lq_base.proofs.convert.into_kind.Goals as goal

@@ -1,6 +1,5 @@
 use Rattle.std.proofs.Common.{None, arith, rules, sym, ◌≡◌}
-use Rattle.lq_canon.specs.Parts.{place_of}
-use Rattle.lq_canon.specs.Passing.{stepped}
+use Rattle.lq_canon.specs.Passing.{place_of, stepped}
 use Rattle.lq_canon.proofs.Walks.{begins_so, ends_there, leads_on, never_stuck}
 use Rattle.lq_canon.proofs.reading.behind_value.Goals as goal
 

@@ -1,5 +1,5 @@
 use Rattle.std.proofs.Common.{length, List, ℕ, ◌++◌, ◌+◌, ◌≡◌, ◌≤◌}
-use Rattle.lq_model.specs.Canon.{CanonicalValue, canonical}
+use Rattle.lq_model.specs.Changes.{CanonicalValue, canonical}
 use Rattle.lq_canon.proofs.Walks.{Leads}
 use Rattle.lq_canon.proofs.reading.behind_value.Given as goal
 

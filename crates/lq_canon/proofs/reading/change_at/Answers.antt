@@ -1,5 +1,5 @@
 use Rattle.std.proofs.Common.{Some, ap, rules}
-use Rattle.lq_canon.specs.Parts.{part_of}
+use Rattle.lq_canon.specs.Passing.{part_of}
 use Rattle.lq_canon.proofs.PartsRead.{change_read, change_there, no_atom_at_bracket}
 use Rattle.lq_canon.proofs.reading.change_at.Goals as goal
 

@@ -1,5 +1,5 @@
 use Rattle.std.proofs.Common.{rules}
-use Rattle.lq_canon.specs.Parts.{part_of}
+use Rattle.lq_canon.specs.Passing.{part_of}
 use Rattle.lq_canon.proofs.PartsRead.{is_there, no_atom_at_brace, pair_read, value_there}
 use Rattle.lq_canon.proofs.reading.pair_at.Goals as goal
 

@@ -1,5 +1,5 @@
 use Rattle.std.proofs.Common.{rules}
-use Rattle.lq_canon.specs.Parts.{part_of}
+use Rattle.lq_canon.specs.Passing.{part_of}
 use Rattle.lq_canon.proofs.PartsRead.{text_read, text_there}
 use Rattle.lq_canon.proofs.reading.text_in.Goals as goal
 

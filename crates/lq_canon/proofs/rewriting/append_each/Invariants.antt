@@ -1,5 +1,5 @@
 use Rattle.std.proofs.Common.{List, length, map, ℕ, ◌++◌, ◌∷◌, ◌≡◌}
-use Rattle.lq_model.specs.Canon.{CanonicalChange, canonical_each}
+use Rattle.lq_model.specs.Changes.{CanonicalChange, canonical_each}
 use Rattle.lq_canon.proofs.PairsLeft.{EachWritten}
 use Rattle.lq_canon.specs.Sums.{uniformed}
 use Rattle.lq_canon.proofs.rewriting.append_each.Given as goal

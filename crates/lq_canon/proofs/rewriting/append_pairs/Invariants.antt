@@ -1,5 +1,5 @@
 use Rattle.std.proofs.Common.{List, length, ℕ, ◌++◌, ◌∷◌, ◌≡◌, ◌≤◌}
-use Rattle.lq_model.specs.Canon.{CanonicalPairs, canonical_pairs}
+use Rattle.lq_model.specs.Changes.{CanonicalPairs, canonical_pairs}
 use Rattle.lq_canon.proofs.PairsLeft.{StillWritten}
 use Rattle.lq_canon.specs.Sums.{uniform_pairs}
 use Rattle.lq_canon.proofs.rewriting.append_pairs.Given as goal

@@ -1,5 +1,5 @@
 use Rattle.std.proofs.Common.{List, length, ℕ, ◌++◌, ◌∷◌, ◌≡◌}
-use Rattle.lq_model.specs.Canon.{CanonicalChange, canonical_each}
+use Rattle.lq_model.specs.Changes.{CanonicalChange, canonical_each}
 use Rattle.lq_canon.proofs.PairsLeft.{StillUniform}
 use Rattle.lq_canon.proofs.rewriting.one_has_sql.Given as goal
 

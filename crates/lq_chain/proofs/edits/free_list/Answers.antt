@@ -1,6 +1,5 @@
 use Rattle.std.proofs.Common.{None, Some, sym, subst}
-use Rattle.lq_links.specs.Nodes.{node, first_or, Linked, Apart}
-use Rattle.lq_links.specs.State.{State}
+use Rattle.lq_links.specs.State.{node, first_or, Linked, Apart, State}
 use Rattle.lq_chain.proofs.ChainLemmas.{linked_freed}
 use Rattle.lq_chain.proofs.IterLemmas.{stepped}
 use Rattle.lq_chain.proofs.edits.free_list.Goals as goal

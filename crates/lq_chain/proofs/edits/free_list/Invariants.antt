@@ -1,7 +1,6 @@
 use Rattle.std.proofs.Common.{◌≡◌, List, Option, None}
 use Rattle.lq_links.specs.declared.node.Spot.{Spot}
-use Rattle.lq_links.specs.Nodes.{Linked, first_or, Apart}
-use Rattle.lq_links.specs.State.{state_of, Ties}
+use Rattle.lq_links.specs.State.{Linked, first_or, Apart, state_of, Ties}
 use Rattle.lq_chain.proofs.edits.free_list.Given as goal
 
 abbrev pub invariant-loop : goal.invariant-loop

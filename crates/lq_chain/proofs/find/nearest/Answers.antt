@@ -1,6 +1,5 @@
 use Rattle.std.proofs.Common.{◌≡◌, ◌-◌, rules, sym, subst}
-use Rattle.lq_links.specs.Nodes.{IsOn}
-use Rattle.lq_links.specs.State.{state_of, spots}
+use Rattle.lq_links.specs.State.{IsOn, state_of, spots}
 use Rattle.lq_links.specs.declared.node.Finger.{Finger}
 use Rattle.lq_chain.proofs.FindLemmas.{nearer_on, front_on, end_on}
 use Rattle.lq_chain.proofs.find.nearest.Goals as goal

@@ -1,6 +1,5 @@
 use Rattle.std.proofs.Common.{◌≡◌, ◌+◌, ◌-◌, ◌<◌, length, sym, ap, ◌∙◌, arith}
-use Rattle.lq_links.specs.Nodes.{spot_at}
-use Rattle.lq_links.specs.State.{state_of, spots}
+use Rattle.lq_links.specs.State.{spot_at, state_of, spots}
 use Rattle.lq_chain.proofs.FindLemmas.{spot_within, spot_below, node_at}
 use Rattle.lq_chain.proofs.find.walk_back.Goals as goal
 

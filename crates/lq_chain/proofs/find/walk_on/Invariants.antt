@@ -1,6 +1,5 @@
 use Rattle.std.proofs.Common.{◌≡◌, ◌≤◌}
-use Rattle.lq_links.specs.Nodes.{spot_at}
-use Rattle.lq_links.specs.State.{state_of, spots}
+use Rattle.lq_links.specs.State.{spot_at, state_of, spots}
 use Rattle.lq_chain.proofs.find.walk_on.Given as goal
 
 abbrev pub invariant-loop : goal.invariant-loop

@@ -1,6 +1,5 @@
 use Rattle.std.proofs.Common.{None, sym, subst}
-use Rattle.lq_links.specs.Nodes.{IsThereIf, node}
-use Rattle.lq_links.specs.State.{State, state_of}
+use Rattle.lq_links.specs.State.{IsThereIf, node, State, state_of}
 use Rattle.lq_chain.proofs.StepLemmas.{there_if_grown}
 use Rattle.lq_chain.proofs.moves.push_back.Goals as goal
 

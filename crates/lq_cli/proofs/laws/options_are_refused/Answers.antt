@@ -1,9 +1,8 @@
 use Rattle.std.proofs.Common.{refl}
 use Rattle.clap.proofs.OnLiterals.{clap_on_literals}
-use Rattle.lq_cli.specs.Options.{command_of, definitions, given_in, matched, value}
+use Rattle.lq_cli.specs.Options.{command_of, definitions, given_in, matched, value, contexts_of, file_after, labels_of, properties_of, url_of, cut_at, definition_of, number_from}
 use Rattle.lq_cli.specs.Line.{job_of, line_after, line_of, line_with, by_count}
 use Rattle.lq_cli.specs.Table.{verb_of}
-use Rattle.lq_cli.specs.Values.{contexts_of, file_after, labels_of, properties_of, url_of, cut_at, definition_of, number_from}
 use Rattle.lq_cli.proofs.laws.options_are_refused.Goals as goal
 
 pub returns : goal.returns

@@ -1,5 +1,5 @@
 use Rattle.std.proofs.Common.{◌≡◌, ◌++◌, drop, map, option_map}
-use Rattle.lq_cli.specs.Values.{definition_of, each}
+use Rattle.lq_cli.specs.Options.{definition_of, each}
 use Rattle.lq_cli.proofs.reading.each_definition.Given as goal
 
 abbrev pub invariant-loop-text : goal.invariant-loop-text

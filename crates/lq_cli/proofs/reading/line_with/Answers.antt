@@ -1,8 +1,7 @@
 use Rattle.std.proofs.Common.{◌≡◌, ◌∙◌, rules, ap, sym, Some, option_and_then}
 use Rattle.lq_cli.specs.Line.{job_of}
-use Rattle.lq_cli.specs.Options.{definitions, value}
+use Rattle.lq_cli.specs.Options.{definitions, value, contexts_of, labels_of, properties_of, url_of}
 use Rattle.lq_cli.specs.Table.{changelog_file, context_filter, label_filter, url}
-use Rattle.lq_cli.specs.Values.{contexts_of, labels_of, properties_of, url_of}
 use Rattle.lq_cli.proofs.Lines.{line_is}
 use Rattle.lq_cli.proofs.reading.line_with.Goals as goal
 

@@ -1,6 +1,6 @@
 use Rattle.std.proofs.Common.{Bool, OnOk, suc, subst, sym, true, ◌++◌, ◌≡◌}
 use Rattle.lq_model.specs.declared.test.Test.{Test}
-use Rattle.lq_codec.specs.Limits.{OnTrue, is_below_level}
+use Rattle.lq_codec.specs.State.{OnTrue, is_below_level}
 use Rattle.lq_codec.specs.Queries.{operand_codec, test_codec}
 use Rattle.lq_coded.proofs.TestLemmas.{and_fits, and_written, leaf_below, not_written, or_fits, or_written}
 use Rattle.lq_coded.proofs.levels.+writing.Goals as goal

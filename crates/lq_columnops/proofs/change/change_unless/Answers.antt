@@ -1,8 +1,8 @@
 use Rattle.lq_arm.proofs.Arms.{good}
 use Rattle.lq_arm.specs.Verdict.{verdict_of}
 use Rattle.lq_model.specs.Catalogue.{the_table, with_table}
-use Rattle.lq_model.specs.ChangeColumn.{with_changed}
-use Rattle.lq_columnops.specs.Change.{applied}
+use Rattle.lq_model.specs.Tables.{with_changed}
+use Rattle.lq_columnops.specs.OnColumn.{applied}
 use Rattle.lq_columnops.proofs.Arms as arm
 use Rattle.lq_columnops.proofs.change.change_unless.Goals as goal
 

@@ -1,6 +1,6 @@
 use Rattle.std.proofs.Common.{map, take, ◌≡◌}
-use Rattle.lq_model.specs.ChangeColumn.{changed_at}
-use Rattle.lq_columnops.specs.Change.{applied}
+use Rattle.lq_model.specs.Tables.{changed_at}
+use Rattle.lq_columnops.specs.OnColumn.{applied}
 use Rattle.lq_columnops.proofs.change.changed_columns.Given as goal
 
 abbrev pub invariant-loop-column : goal.invariant-loop-column

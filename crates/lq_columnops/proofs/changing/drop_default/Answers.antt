@@ -1,7 +1,7 @@
 use Rattle.std.proofs.Common.{ap, refl}
 use Rattle.lq_arm.specs.Verdict.{verdict_of}
 use Rattle.lq_arm.specs.declared.tests.Tests.{Tests}
-use Rattle.lq_model.specs.ChangeColumn as spec
+use Rattle.lq_model.specs.Tables as spec
 use Rattle.lq_decide.specs.Faults.{no_faults}
 use Rattle.lq_columnops.proofs.Arms as arm
 use Rattle.lq_decide.proofs.Changed.{drop_default_judged}

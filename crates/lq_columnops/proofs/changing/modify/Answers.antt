@@ -3,11 +3,9 @@ use Rattle.std.specs.List.{list_any}
 use Rattle.std.specs.Prelude.{is_none, not}
 use Rattle.lq_base.specs.Value.{is_value_of}
 use Rattle.lq_arm.specs.declared.tests.Tests.{Tests}
-use Rattle.lq_model.specs.Catalogue.{table_of, the_table}
-use Rattle.lq_model.specs.ChangeColumn as spec
-use Rattle.lq_model.specs.Look.{has_null_in}
-use Rattle.lq_model.specs.Needs.{is_in_key}
-use Rattle.lq_model.specs.Row.{by_name}
+use Rattle.lq_model.specs.Catalogue.{table_of, the_table, has_null_in, by_name}
+use Rattle.lq_model.specs.Tables as spec
+use Rattle.lq_model.specs.Tables.{is_in_key}
 use Rattle.lq_decide.specs.Faults.{modify_faults}
 use Rattle.lq_columnops.specs.OnColumn.{on_column}
 use Rattle.lq_columnops.proofs.Arms as arm

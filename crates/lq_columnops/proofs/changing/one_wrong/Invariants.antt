@@ -1,7 +1,7 @@
 use Rattle.std.proofs.Common.{not, ◌≡◌}
 use Rattle.std.specs.List.{list_any}
-use Rattle.lq_model.specs.ChangeColumn.{is_variant}
-use Rattle.lq_model.specs.Row.{by_name}
+use Rattle.lq_model.specs.Tables.{is_variant}
+use Rattle.lq_model.specs.Catalogue.{by_name}
 use Rattle.lq_columnops.proofs.changing.one_wrong.Given as goal
 
 abbrev pub invariant-loop-row : goal.invariant-loop-row

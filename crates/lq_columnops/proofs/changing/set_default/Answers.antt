@@ -2,8 +2,8 @@ use Rattle.std.proofs.Common.{Some, ap, refl, sym, ◌∙◌}
 use Rattle.lq_base.specs.Value.{into_kind}
 use Rattle.lq_arm.specs.declared.tests.Tests.{Tests}
 use Rattle.lq_model.specs.Catalogue.{the_table, with_table}
-use Rattle.lq_model.specs.Literals.{is_wide, is_wrong, value_in}
-use Rattle.lq_model.specs.ChangeColumn as spec
+use Rattle.lq_model.specs.Kinds.{is_wide, is_wrong, value_in}
+use Rattle.lq_model.specs.Tables as spec
 use Rattle.lq_decide.specs.Faults.{no_faults}
 use Rattle.lq_columnops.specs.OnColumn.{on_column}
 use Rattle.lq_columnops.proofs.Arms as arm

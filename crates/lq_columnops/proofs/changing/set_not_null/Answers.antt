@@ -3,7 +3,7 @@ use Rattle.std.specs.Prelude.{is_none}
 use Rattle.lq_arm.specs.Verdict.{verdict_of}
 use Rattle.lq_arm.specs.declared.tests.Tests.{Tests}
 use Rattle.lq_model.specs.Catalogue.{table_of, the_table}
-use Rattle.lq_model.specs.ChangeColumn as spec
+use Rattle.lq_model.specs.Tables as spec
 use Rattle.lq_decide.specs.Faults.{set_not_null_faults}
 use Rattle.lq_columnops.specs.OnColumn.{on_column}
 use Rattle.lq_columnops.proofs.Arms as arm

@@ -1,9 +1,7 @@
 use Rattle.std.proofs.Common.{ap, not, refl, sym, ◌&&◌}
-use Rattle.lq_model.specs.Catalogue.{the_table, with_table}
-use Rattle.lq_model.specs.Columns as spec
-use Rattle.lq_model.specs.Literals.{column_of, default_value}
-use Rattle.lq_model.specs.Names.{is_empty}
-use Rattle.lq_model.specs.Row.{is_null}
+use Rattle.lq_model.specs.Catalogue.{the_table, with_table, is_empty, is_null}
+use Rattle.lq_model.specs.Tables as spec
+use Rattle.lq_model.specs.Kinds.{column_of, default_value}
 use Rattle.lq_model.specs.declared.column.Column.{Column}
 use Rattle.lq_decide.specs.Faults.{add_column_faults}
 use Rattle.lq_decide.proofs.Columns.{add_column_judged}

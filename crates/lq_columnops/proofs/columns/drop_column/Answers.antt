@@ -1,7 +1,7 @@
 use Rattle.std.proofs.Common.{ap, refl, ◌||◌}
 use Rattle.lq_model.specs.Catalogue.{the_table}
-use Rattle.lq_model.specs.Columns as spec
-use Rattle.lq_model.specs.Needs.{is_aimed, is_bound, is_shown}
+use Rattle.lq_model.specs.Tables as spec
+use Rattle.lq_model.specs.Tables.{is_aimed, is_bound, is_shown}
 use Rattle.lq_decide.specs.Faults.{no_faults}
 use Rattle.lq_decide.proofs.Columns.{drop_column_judged}
 use Rattle.lq_arm.specs.declared.tests.Tests.{Tests}

@@ -2,7 +2,7 @@ use Rattle.std.proofs.Common.{ap, ◌++◌, ◌∙◌, ◌≡◌}
 use Rattle.lq_arm.proofs.Arms.{good}
 use Rattle.lq_arm.specs.Verdict.{verdict_of}
 use Rattle.lq_model.specs.Catalogue.{the_table, with_table}
-use Rattle.lq_model.specs.Columns.{columns_without}
+use Rattle.lq_model.specs.Tables.{columns_without}
 use Rattle.lq_columnops.proofs.Arms as arm
 use Rattle.lq_columnops.proofs.RowLemmas as lemma
 use Rattle.lq_columnops.proofs.columns.drop_unless.Goals as goal

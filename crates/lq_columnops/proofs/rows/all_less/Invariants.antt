@@ -1,5 +1,5 @@
 use Rattle.std.proofs.Common.{Some, map, ◌++◌, ◌≡◌}
-use Rattle.lq_model.specs.Columns.{row_without}
+use Rattle.lq_model.specs.Tables.{row_without}
 use Rattle.lq_columnops.proofs.rows.all_less.Given as goal
 
 abbrev pub invariant-loop-row : goal.invariant-loop-row

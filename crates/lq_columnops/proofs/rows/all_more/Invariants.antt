@@ -1,5 +1,5 @@
 use Rattle.std.proofs.Common.{Some, [], map, ◌++◌, ◌∷◌, ◌≡◌}
-use Rattle.lq_model.specs.Literals.{default_value}
+use Rattle.lq_model.specs.Kinds.{default_value}
 use Rattle.lq_columnops.proofs.rows.all_more.Given as goal
 
 abbrev pub invariant-loop-row : goal.invariant-loop-row

@@ -1,5 +1,5 @@
 use Rattle.std.proofs.Common.{◌++◌, ◌≡◌, length}
-use Rattle.lq_model.specs.Columns.{columns_without}
+use Rattle.lq_model.specs.Tables.{columns_without}
 use Rattle.lq_columnops.proofs.rows.push_columns_without.Given as goal
 
 abbrev pub invariant-loop-column : goal.invariant-loop-column

@@ -1,5 +1,5 @@
 use Rattle.std.proofs.Common.{drop, ◌++◌, ◌≡◌}
-use Rattle.lq_model.specs.Columns.{row_without}
+use Rattle.lq_model.specs.Tables.{row_without}
 use Rattle.lq_columnops.proofs.rows.push_without.Given as goal
 
 abbrev pub invariant-loop-column : goal.invariant-loop-column

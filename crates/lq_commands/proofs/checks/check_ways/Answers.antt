@@ -4,7 +4,7 @@ use Rattle.lq_back.specs.Reversal.{IsReversed}
 use Rattle.lq_kinds.specs.declared.change_set.Changelog.{Changelog}
 use Rattle.lq_seen.specs.View.{any_meaning, views}
 use Rattle.lq_back.specs.declared.reverse_fault.ReverseFault.TheVariants.{Not}
-use Rattle.lq_turns.specs.Rollback.{not_reversible}
+use Rattle.lq_turns.specs.Script.{not_reversible}
 use Rattle.lq_commands.proofs.Checked.{not_back, ways_pass}
 use Rattle.lq_commands.proofs.checks.check_ways.Goals as goal
 

@@ -1,8 +1,8 @@
 use Rattle.std.proofs.Common.{ap, sym, ◌∙◌}
 use Rattle.lq_beside.proofs.OtherFits.{clear_fits}
-use Rattle.lq_model.specs.Names.{is_empty}
+use Rattle.lq_model.specs.Catalogue.{is_empty}
 use Rattle.lq_run.proofs.Behind.{none_left}
-use Rattle.lq_store.specs.State.{is_open}
+use Rattle.lq_store.specs.Journal.{is_open}
 use Rattle.lq_commands.proofs.Cleared.{leaves_none}
 use Rattle.lq_commands.proofs.Endings.{untouched_crashes}
 use Rattle.lq_commands.proofs.Freed.{nothing_failed}

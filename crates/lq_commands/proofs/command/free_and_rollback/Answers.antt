@@ -9,7 +9,7 @@ use Rattle.lq_commands.proofs.Telling.{on_its_tells, rollback_cut}
 use Rattle.lq_commands.specs.Outputs.{back_in}
 use Rattle.lq_commands.specs.Refusals.{Answers, print_rollback}
 use Rattle.lq_commands.specs.Scripts.{rollback_script}
-use Rattle.lq_commands.specs.Tells.{EndsRollback}
+use Rattle.lq_commands.specs.Works.{EndsRollback}
 use Rattle.lq_commands.proofs.command.free_and_rollback.Goals as goal
 
 pub rollback-requires-clause-ready : goal.rollback-requires-clause-ready

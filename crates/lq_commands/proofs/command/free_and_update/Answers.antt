@@ -8,7 +8,7 @@ use Rattle.lq_commands.proofs.Printed.{freed_room, ran_room}
 use Rattle.lq_commands.proofs.Telling.{on_its_tells, update_cut}
 use Rattle.lq_commands.specs.Refusals.{Answers, print_update}
 use Rattle.lq_commands.specs.Scripts.{update_script, updated_in}
-use Rattle.lq_commands.specs.Tells.{EndsUpdate}
+use Rattle.lq_commands.specs.Works.{EndsUpdate}
 use Rattle.lq_commands.proofs.command.free_and_update.Goals as goal
 
 pub update-requires-clause-ready : goal.update-requires-clause-ready

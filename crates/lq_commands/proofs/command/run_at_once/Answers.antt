@@ -1,11 +1,11 @@
 use Rattle.std.proofs.Common.{refl, subst}
 use Rattle.std.specs.Prelude.{IfSome, ◌≤◌}
-use Rattle.lq_base.specs.Character.{char_count}
+use Rattle.lq_base.specs.Number.{char_count}
 use Rattle.lq_base.specs.declared.command.Command.{Command}
 use Rattle.lq_base.specs.declared.command.Command.TheVariants as command
 use Rattle.lq_report.specs.Output.{status_text, validated_text}
 use Rattle.lq_track.specs.Database.{Database}
-use Rattle.lq_turns.specs.Pending.{pending}
+use Rattle.lq_turns.specs.Printed.{pending}
 use Rattle.lq_commands.proofs.Commanded.{answers_as, crashes_as, kept_as, works_as}
 use Rattle.lq_commands.proofs.Endings.{untouched_crashes}
 use Rattle.lq_commands.proofs.MayWrite.{writes}

@@ -4,10 +4,9 @@ use Rattle.std.specs.Prelude.{false}
 use Rattle.lq_commands.proofs.Commanded.{answers_as, crashes_as, kept_as, works_as}
 use Rattle.lq_commands.proofs.MayWrite.{writes}
 use Rattle.lq_commands.proofs.Telling.{on_its_tells, tells_as}
-use Rattle.lq_commands.specs.Inserts.{EndsSync, synced_in}
+use Rattle.lq_commands.specs.Works.{EndsSync, synced_in, EndsRollback, EndsUpdate}
 use Rattle.lq_commands.specs.Outputs.{back_in}
 use Rattle.lq_commands.specs.Scripts.{updated_in}
-use Rattle.lq_commands.specs.Tells.{EndsRollback, EndsUpdate}
 use Rattle.lq_commands.proofs.command.run_command.Goals as goal
 
 pub returns-in-Update-clause-answers : goal.returns-in-Update-clause-answers

@@ -1,6 +1,6 @@
 use Rattle.std.proofs.Common.{subst}
 use Rattle.std.specs.Prelude.{IfSome, ◌≤◌}
-use Rattle.lq_base.specs.Character.{char_count}
+use Rattle.lq_base.specs.Number.{char_count}
 use Rattle.lq_cli.specs.declared.line.Job.{Job}
 use Rattle.lq_cli.specs.declared.line.Job.TheVariants.{ClearSums, History, Run, UpdateCount, UpdateTo}
 use Rattle.lq_commands.proofs.Jobbed.{cleared_did, did_as, listed_did, updated_did}

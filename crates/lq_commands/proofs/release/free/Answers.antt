@@ -1,7 +1,7 @@
 use Rattle.std.proofs.Common.{ap, ◌∙◌}
 use Rattle.lq_beside.proofs.OtherFits.{release_fits}
 use Rattle.lq_run.proofs.Behind.{none_left}
-use Rattle.lq_store.specs.State.{is_open}
+use Rattle.lq_store.specs.Journal.{is_open}
 use Rattle.lq_commands.proofs.Endings.{untouched_crashes}
 use Rattle.lq_commands.proofs.Freed.{leaves_free, nothing_failed}
 use Rattle.lq_commands.proofs.Seen.{err_full, ok_leaves}

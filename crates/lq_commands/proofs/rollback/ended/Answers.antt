@@ -5,7 +5,7 @@ use Rattle.lq_tell.specs.declared.status.Status.{Status}
 use Rattle.lq_tell.specs.declared.status.Status.TheVariants as status
 use Rattle.lq_commands.proofs.RolledBack.{err_disk, err_err, err_ok, memory_no_disk, tells_rollback}
 use Rattle.lq_commands.specs.Refusals.{IsFault}
-use Rattle.lq_commands.specs.Tells.{EndsRollback}
+use Rattle.lq_commands.specs.Works.{EndsRollback}
 use Rattle.lq_commands.proofs.rollback.ended.Goals as goal
 
 -- the run met a fault

@@ -1,6 +1,6 @@
 use Rattle.std.proofs.Common.{subst, sym}
 use Rattle.std.specs.Prelude.{Bool, IfOk, ◌≡◌}
-use Rattle.lq_commands.specs.Tells.{rollback_output}
+use Rattle.lq_commands.specs.Works.{rollback_output}
 use Rattle.lq_commands.proofs.rollback.output.Goals as goal
 
 pub returns-then-prints : goal.returns-then-prints

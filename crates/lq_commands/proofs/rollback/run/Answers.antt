@@ -1,14 +1,14 @@
 use Rattle.std.specs.Prelude.{reverse}
-use Rattle.lq_seen.specs.Printing.{of_turns}
+use Rattle.lq_seen.specs.Telling.{of_turns}
 use Rattle.lq_seen.specs.View.{any_meaning}
-use Rattle.lq_turns.specs.Contents.{contents_of}
+use Rattle.lq_turns.specs.Deed.{contents_of}
 use Rattle.lq_turns.specs.Rest.{OfRows}
 use Rattle.lq_commands.proofs.Endings.{kept_lock}
 use Rattle.lq_commands.proofs.RolledBack.{back_crashes, back_may, back_works, rows_told}
 use Rattle.lq_commands.proofs.Stopped.{rows_stopped, turns_named}
 use Rattle.lq_commands.proofs.Updated.{answers_end, ok_on_its}
-use Rattle.lq_commands.specs.Tells.{EndsRollback}
-use Rattle.lq_commands.specs.Turns.{turns_script}
+use Rattle.lq_commands.specs.Works.{EndsRollback}
+use Rattle.lq_commands.specs.Scripts.{turns_script}
 use Rattle.lq_commands.proofs.rollback.run.Goals as goal
 
 pub run_turns-source-requires-clause-reads : goal.run_turns-source-requires-clause-reads

@@ -3,13 +3,12 @@ use Rattle.std.specs.Prelude.{Err, None, reverse, ◌≡◌}
 use Rattle.lq_kinds.specs.declared.change_set.Changelog.{Changelog}
 use Rattle.lq_seen.specs.View.{any_meaning, views}
 use Rattle.lq_tell.specs.declared.status.Status.TheVariants as status
-use Rattle.lq_turns.specs.Rollback.{undo_turns}
+use Rattle.lq_turns.specs.Script.{undo_turns}
 use Rattle.lq_commands.proofs.Endings.{untouched_crashes, untouched_works}
 use Rattle.lq_commands.proofs.RolledBack.{err_answers, has_turns, idle_tells, idle_works, memory_no_disk, no_rows, still_some, taken_so, taken_tells_ok}
 use Rattle.lq_commands.proofs.Updated.{answers_done, no_disk, ok_on_its}
 use Rattle.lq_commands.specs.Scripts.{rolled_back, taking_back}
-use Rattle.lq_commands.specs.Tells.{EndsRollback}
-use Rattle.lq_commands.specs.Works.{CrashesIn, Works}
+use Rattle.lq_commands.specs.Works.{EndsRollback, CrashesIn, Works}
 use Rattle.lq_commands.proofs.rollback.take_back.Goals as goal
 
 -- there is nothing to take back

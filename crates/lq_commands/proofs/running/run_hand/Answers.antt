@@ -3,10 +3,10 @@ use Rattle.std.specs.Prelude.{Option}
 use Rattle.lq_run.specs.Commands.{LeavesAs}
 use Rattle.lq_run.specs.Crashes.{LeftBehind}
 use Rattle.lq_run.specs.Left.{LeftAs}
-use Rattle.lq_run.specs.NoChanges.{no_changes}
+use Rattle.lq_run.specs.Stands.{no_changes}
 use Rattle.lq_run.specs.Steps.{Standing}
 use Rattle.lq_hand.specs.Hand.{calls_left}
-use Rattle.lq_turns.specs.Contents.{contents_of}
+use Rattle.lq_turns.specs.Deed.{contents_of}
 use Rattle.lq_turns.specs.Rest.{NoMore}
 use Rattle.lq_turns.specs.Script.{with_lock}
 use Rattle.lq_turns.specs.Turn.{made}
@@ -14,7 +14,7 @@ use Rattle.lq_turns.specs.declared.stop.Refusal.{Refusal}
 use Rattle.lq_commands.proofs.Endings.{full_as}
 use Rattle.lq_commands.proofs.InOneTurn.{hand_holds, tells_as, turn_may_run, turn_tells}
 use Rattle.lq_commands.proofs.Starts.{holds_so, may_so, name_so}
-use Rattle.lq_commands.specs.Stopping.{one_way}
+use Rattle.lq_commands.specs.Scripts.{one_way}
 use Rattle.lq_commands.specs.Works.{CrashesIn}
 use Rattle.lq_commands.proofs.running.run_hand.Goals as goal
 

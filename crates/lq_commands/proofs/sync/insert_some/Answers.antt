@@ -4,9 +4,8 @@ use Rattle.lq_tell.specs.declared.status.Status.TheVariants as status
 use Rattle.lq_commands.proofs.Endings.{kept_lock, untouched_crashes, untouched_works, works_by, works_left}
 use Rattle.lq_commands.proofs.Inserted.{names_stop, sync_tells}
 use Rattle.lq_commands.proofs.Commanded.{answers_end}
-use Rattle.lq_commands.specs.Scripts.{sync_script}
-use Rattle.lq_commands.specs.Stopping.{refused_at}
-use Rattle.lq_turns.specs.Synced.{insert_stop, marked_by}
+use Rattle.lq_commands.specs.Scripts.{sync_script, refused_at}
+use Rattle.lq_turns.specs.Laws.{insert_stop, marked_by}
 use Rattle.lq_commands.proofs.sync.insert_some.Goals as goal
 
 pub returns-in_err-happened-clause-works : goal.returns-in_err-happened-clause-works

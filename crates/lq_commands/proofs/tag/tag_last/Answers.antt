@@ -1,6 +1,6 @@
 use Rattle.std.proofs.Common.{ap, rules, ◌∙◌}
 use Rattle.std.specs.Prelude.{Err, None, Ok, Some}
-use Rattle.lq_store.specs.State.{is_open}
+use Rattle.lq_store.specs.Journal.{is_open}
 use Rattle.lq_tell.specs.declared.status.Status.TheVariants.{OutOfMemory}
 use Rattle.lq_commands.proofs.Commanded.{answers_end, fault_rose, lacking, tag_behind, tag_crashes, tag_leaves, unfinished_works}
 use Rattle.lq_commands.proofs.Endings.{done_works, full_once, untouched_crashes, untouched_works}

@@ -6,7 +6,7 @@ use Rattle.lq_tell.specs.declared.status.Status.TheVariants as status
 use Rattle.lq_commands.proofs.RolledBack.{err_disk, err_err, err_ok, memory_no_disk}
 use Rattle.lq_commands.proofs.Updated.{tells_update}
 use Rattle.lq_commands.specs.Refusals.{IsFault}
-use Rattle.lq_commands.specs.Tells.{EndsUpdate}
+use Rattle.lq_commands.specs.Works.{EndsUpdate}
 use Rattle.lq_commands.proofs.update.ended.Goals as goal
 
 -- the run met a fault

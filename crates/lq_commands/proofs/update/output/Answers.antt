@@ -1,6 +1,6 @@
 use Rattle.std.proofs.Common.{subst, sym}
 use Rattle.std.specs.Prelude.{Bool, IfOk, ◌≡◌}
-use Rattle.lq_commands.specs.Tells.{update_output}
+use Rattle.lq_commands.specs.Works.{update_output}
 use Rattle.lq_commands.proofs.update.output.Goals as goal
 
 pub returns-then-prints : goal.returns-then-prints

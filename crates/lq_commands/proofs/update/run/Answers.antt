@@ -2,12 +2,12 @@ use Rattle.std.proofs.Common.{rules}
 use Rattle.std.specs.Prelude.{Err, ◌≡◌}
 use Rattle.lq_tell.specs.declared.status.Status.TheVariants as status
 use Rattle.lq_seen.specs.View.{any_meaning}
-use Rattle.lq_turns.specs.Contents.{contents_of}
+use Rattle.lq_turns.specs.Deed.{contents_of}
 use Rattle.lq_commands.proofs.Endings.{untouched_crashes, untouched_works}
 use Rattle.lq_commands.proofs.Stopped.{sets_named, sets_stopped}
 use Rattle.lq_commands.proofs.Updated.{ok_on_its, sets_told, turns_crash, turns_may, turns_work}
 use Rattle.lq_commands.specs.Scripts.{sets_in, settled_in, sets_script}
-use Rattle.lq_commands.specs.Tells.{EndsUpdate}
+use Rattle.lq_commands.specs.Works.{EndsUpdate}
 use Rattle.lq_commands.proofs.update.run.Goals as goal
 
 pub returns-in_err-source-clause-works : goal.returns-in_err-source-clause-works

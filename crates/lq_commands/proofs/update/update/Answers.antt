@@ -1,7 +1,7 @@
 use Rattle.std.proofs.Common.{rules, ◌∙◌}
 use Rattle.std.specs.Prelude.{Err, Ok, ◌≡◌}
 use Rattle.lq_run.specs.Crashes.{LeftBehind}
-use Rattle.lq_turns.specs.Contents.{contents_of}
+use Rattle.lq_turns.specs.Deed.{contents_of}
 use Rattle.lq_turns.specs.Settle.{own_choice}
 use Rattle.lq_commands.proofs.Endings.{untouched_crashes, untouched_works, works_left, works_same}
 use Rattle.lq_commands.proofs.Updated.{not_halt, own_answers, passed, rows_answers, so_of_update, updated_tells}

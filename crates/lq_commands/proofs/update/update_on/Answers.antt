@@ -1,14 +1,14 @@
 use Rattle.std.proofs.Common.{ap, rules, ◌∙◌}
 use Rattle.std.specs.Prelude.{Err, ◌≡◌}
 use Rattle.lq_kinds.specs.declared.change_set.Changelog.{Changelog}
-use Rattle.lq_plan.specs.Work.{work}
+use Rattle.lq_plan.specs.Told.{work}
 use Rattle.lq_seen.specs.View.{views}
 use Rattle.lq_tell.specs.declared.status.Status.TheVariants as status
 use Rattle.lq_commands.proofs.Endings.{untouched_crashes, untouched_works}
 use Rattle.lq_commands.proofs.Planned.{some_work}
 use Rattle.lq_commands.proofs.Updated.{idle_tells, idle_works, not_both, ok_on_its}
 use Rattle.lq_commands.specs.Scripts.{sets_in, settled_in, sets_script}
-use Rattle.lq_commands.specs.Tells.{EndsUpdate}
+use Rattle.lq_commands.specs.Works.{EndsUpdate}
 use Rattle.lq_commands.proofs.update.update_on.Goals as goal
 
 pub returns-in_err-work-clause-works : goal.returns-in_err-work-clause-works

@@ -1,5 +1,5 @@
 use Rattle.std.proofs.Common.{◌≡◌, ◌++◌, drop, map}
-use Rattle.lq_cond.specs.Dialects.{names_of}
+use Rattle.lq_cond.specs.Kinds.{names_of}
 use Rattle.lq_cond.proofs.dialects.names_of.Given as goal
 
 abbrev pub invariant-loop-part : goal.invariant-loop-part

@@ -1,5 +1,5 @@
 use Rattle.std.proofs.Common.{Err, rules, subst, sym}
-use Rattle.lq_tree.specs.Found.{Reads}
+use Rattle.lq_tree.specs.Look.{Reads}
 use Rattle.lq_cond.proofs.Levels.{one_level}
 use Rattle.lq_cond.proofs.nested.+nested.Goals as goal
 

@@ -1,5 +1,5 @@
 use Rattle.std.proofs.Common.{◌≡◌, ◌+◌, ◌*◌, ◌++◌, drop}
-use Rattle.lq_tree.specs.Found.{map_found}
+use Rattle.lq_tree.specs.Look.{map_found}
 use Rattle.lq_cond.specs.Reading.{cond_at, conditions, each_item, each_key}
 use Rattle.lq_cond.proofs.nested.+nested.Given as goal
 

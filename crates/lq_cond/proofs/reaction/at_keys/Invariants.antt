@@ -1,5 +1,5 @@
 use Rattle.std.proofs.Common.{◌≡◌, drop}
-use Rattle.lq_tree.specs.Found.{map_found}
+use Rattle.lq_tree.specs.Look.{map_found}
 use Rattle.lq_cond.specs.Reading.{each_key, setting_at}
 use Rattle.lq_cond.specs.Stated.{and_more}
 use Rattle.lq_cond.proofs.reaction.at_keys.Given as goal

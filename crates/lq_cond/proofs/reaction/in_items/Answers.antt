@@ -1,5 +1,5 @@
 use Rattle.std.proofs.Common.{Ok, [], rules, ◌∙◌, ◌≡◌}
-use Rattle.lq_tree.specs.Found.{map_found, within}
+use Rattle.lq_tree.specs.Look.{map_found, within}
 use Rattle.lq_tree.specs.Items.{item_path}
 use Rattle.lq_cond.specs.Reading.{an_item, setting_at}
 use Rattle.lq_cond.specs.Stated.{and_more}

@@ -1,5 +1,5 @@
 use Rattle.std.proofs.Common.{◌≡◌, ◌++◌, drop, map}
-use Rattle.lq_contents.specs.Own.{own_entry}
+use Rattle.lq_contents.specs.Trees.{own_entry}
 use Rattle.lq_contents.proofs.own.own_entries.Given as goal
 
 abbrev pub invariant-loop-entry : goal.invariant-loop-entry

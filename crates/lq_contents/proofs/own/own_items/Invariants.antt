@@ -1,5 +1,5 @@
 use Rattle.std.proofs.Common.{◌≡◌, ◌++◌, drop, map}
-use Rattle.lq_contents.specs.Own.{own_item}
+use Rattle.lq_contents.specs.Trees.{own_item}
 use Rattle.lq_contents.proofs.own.own_items.Given as goal
 
 abbrev pub invariant-loop-node : goal.invariant-loop-node

@@ -1,6 +1,6 @@
 use Rattle.std.proofs.Common.{drop, option_map, true, ◌++◌, ◌≡◌}
 use Rattle.std.specs.List.{list_all}
-use Rattle.lq_model.specs.Statement.{is_statement}
+use Rattle.lq_model.specs.Step.{is_statement}
 use Rattle.lq_data.specs.Script.{all_spelled}
 use Rattle.lq_data.proofs.script.each_statement.Given as goal
 

@@ -1,6 +1,6 @@
 use Rattle.std.proofs.Common.{◌≡◌}
 use Rattle.std.specs.Prelude.{length, map}
-use Rattle.lq_db.specs.Last.{last_text}
+use Rattle.lq_db.specs.Db.{last_text}
 use Rattle.lq_entries.specs.Log.{unplaced}
 use Rattle.lq_db.proofs.last_texts.last_of.Given as goal
 

@@ -1,10 +1,7 @@
 use Rattle.std.proofs.Common.{[], ap, length, subst, sym, true, ◌∙◌, ◌≡◌}
 use Rattle.std.specs.List.{flat_map, list_all}
 use Rattle.lq_model.specs.Catalogue.{the_table}
-use Rattle.lq_deletes.specs.Gone.{taken_in}
-use Rattle.lq_deletes.specs.Places.{Gains, tables_linked}
-use Rattle.lq_deletes.specs.Rows.{numbered, row_total}
-use Rattle.lq_deletes.specs.Spread.{AreMarks, Spread, are_below}
+use Rattle.lq_deletes.specs.Places.{taken_in, Gains, tables_linked, numbered, row_total, AreMarks, Spread, are_below}
 use Rattle.lq_deletes.proofs.Cascaded.{are_gone, below_marks, marks_total}
 use Rattle.lq_deletes.proofs.DeleteLemmas.{found}
 use Rattle.lq_deletes.proofs.Numbered.{standing_are, standing_below}

@@ -1,6 +1,6 @@
 use Rattle.std.proofs.Common.{ap, map, sym, ◌∙◌, ◌≡◌}
 use Rattle.lq_parts.specs.Steps.{tables_of}
-use Rattle.lq_deletes.specs.Losses.{losses, marks_of}
+use Rattle.lq_deletes.specs.Places.{losses, marks_of}
 use Rattle.lq_deletes.proofs.Cascaded.{losses_marked, losses_thin}
 use Rattle.lq_deletes.proofs.DeleteLemmas.{found}
 use Rattle.lq_deletes.proofs.cascade.losses.Goals as goal

@@ -3,8 +3,8 @@ use Rattle.std.proofs.lemmas.Bool.{OnFalse_from}
 use Rattle.lq_arm.proofs.Arms.{good}
 use Rattle.lq_arm.specs.Verdict.{verdict_of}
 use Rattle.lq_model.specs.Catalogue.{the_table}
-use Rattle.lq_model.specs.ResultTests.{has_orphans}
-use Rattle.lq_deletes.specs.Asked.{is_aimed_at}
+use Rattle.lq_model.specs.Plan.{has_orphans}
+use Rattle.lq_deletes.specs.Places.{is_aimed_at}
 use Rattle.lq_deletes.proofs.DeleteLemmas.{delete_done, delete_refused, linked, none_goes, plain, stated_refused, there}
 use Rattle.lq_deletes.proofs.TargetLemmas.{uncascaded}
 use Rattle.lq_deletes.proofs.deleting.delete_from.Goals as goal

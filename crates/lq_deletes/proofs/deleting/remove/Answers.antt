@@ -1,6 +1,6 @@
 use Rattle.std.proofs.Common.{ap, sym, ◌∙◌, ◌≡◌}
 use Rattle.lq_chain.specs.History.{History}
-use Rattle.lq_deletes.specs.Asked.{cascades_at}
+use Rattle.lq_deletes.specs.Places.{cascades_at}
 use Rattle.lq_deletes.proofs.DeleteLemmas.{found, none_goes}
 use Rattle.lq_deletes.proofs.deleting.remove.Goals as goal
 

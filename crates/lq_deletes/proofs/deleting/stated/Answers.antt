@@ -1,8 +1,7 @@
 use Rattle.std.proofs.Common.{ap, is_none, refl, rules, ◌||◌, ◌≡◌, ◌∙◌}
 use Rattle.lq_arm.proofs.Arms.{agree}
-use Rattle.lq_model.specs.Catalogue.{table_of, the_table}
+use Rattle.lq_model.specs.Catalogue.{table_of, the_table, column_missing}
 use Rattle.lq_model.specs.Comparison.{compares_wrongly}
-use Rattle.lq_model.specs.TableNames.{column_missing}
 use Rattle.lq_model.specs.Truth.{names_in}
 use Rattle.lq_deletes.proofs.deleting.stated.Goals as goal
 

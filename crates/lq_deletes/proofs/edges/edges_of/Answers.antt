@@ -1,8 +1,7 @@
 use Rattle.std.proofs.Common.{[], ap, arith, length, refl, subst, sym, take, vec_len, ◌+◌, ◌++◌, ◌∙◌, ◌∷◌, ◌≡◌, ◌≤◌}
 use Rattle.std.proofs.lemmas.List.{map-append, take_more}
 use Rattle.lq_parts.specs.Steps.{tables_of}
-use Rattle.lq_deletes.specs.Places.{Gains, tables_linked}
-use Rattle.lq_deletes.specs.Rows.{row_total}
+use Rattle.lq_deletes.specs.Places.{Gains, tables_linked, row_total}
 use Rattle.lq_deletes.proofs.PlaceLemmas.{tables_none, tables_one, total_more, total_within}
 use Rattle.lq_deletes.proofs.edges.edges_of.Goals as goal
 

@@ -1,7 +1,6 @@
 use Rattle.std.proofs.Common.{[], take, vec_len, ◌≡◌}
 use Rattle.lq_parts.specs.Steps.{tables_of}
-use Rattle.lq_deletes.specs.Places.{Gains, tables_linked}
-use Rattle.lq_deletes.specs.Rows.{row_total}
+use Rattle.lq_deletes.specs.Places.{Gains, tables_linked, row_total}
 use Rattle.lq_deletes.proofs.edges.edges_of.Given as goal
 
 abbrev pub invariant-loop-entry : goal.invariant-loop-entry

@@ -1,7 +1,7 @@
 use Rattle.std.proofs.Common.{[], map, rules, subst, ◌∷◌, ◌≡◌}
 use Rattle.std.specs.BTreeMap.{get}
-use Rattle.lq_model.specs.Row.{picked}
-use Rattle.lq_rows.specs.Order.{values_cmp}
+use Rattle.lq_model.specs.Catalogue.{picked}
+use Rattle.lq_rows.specs.Stored.{values_cmp}
 use Rattle.lq_deletes.proofs.PlaceLemmas.{Linked, linked_all, linked_one}
 use Rattle.lq_deletes.proofs.edges.link.Goals as goal
 

@@ -1,7 +1,7 @@
 use Rattle.std.proofs.Common.{length, map, vec_len, ◌+◌, ◌≡◌}
 use Rattle.std.specs.BTreeMap.{get}
-use Rattle.lq_model.specs.Row.{picked}
-use Rattle.lq_rows.specs.Order.{values_cmp}
+use Rattle.lq_model.specs.Catalogue.{picked}
+use Rattle.lq_rows.specs.Stored.{values_cmp}
 use Rattle.lq_deletes.proofs.PlaceLemmas.{Linked}
 use Rattle.lq_deletes.proofs.edges.link.Given as goal
 

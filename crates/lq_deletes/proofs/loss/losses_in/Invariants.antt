@@ -1,7 +1,6 @@
 use Rattle.std.proofs.Common.{drop, length, map, ◌++◌, ◌≡◌, ◌≤◌}
 use Rattle.lq_parts.specs.Steps.{tables_of}
-use Rattle.lq_deletes.specs.Losses.{losses, marks_of}
-use Rattle.lq_deletes.specs.Rows.{row_total}
+use Rattle.lq_deletes.specs.Places.{losses, marks_of, row_total}
 use Rattle.lq_deletes.proofs.loss.losses_in.Given as goal
 
 abbrev pub invariant-loop-entry : goal.invariant-loop-entry

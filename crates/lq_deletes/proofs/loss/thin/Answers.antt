@@ -1,8 +1,8 @@
 use Rattle.std.proofs.Common.{ap, arith, drop, length, map, subst, suc, sym, ◌+◌, ◌∙◌, ◌∷◌, ◌≡◌}
 use Rattle.std.proofs.Math.Seq.{drop-cons}
 use Rattle.lq_rows.proofs.Continued.{goes_one_further}
-use Rattle.lq_rows.specs.Answers.{Continues}
-use Rattle.lq_deletes.specs.Losses.{AreMarked, marks_of, with_thinned}
+use Rattle.lq_rows.specs.Stored.{Continues}
+use Rattle.lq_deletes.specs.Places.{AreMarked, marks_of, with_thinned}
 use Rattle.lq_deletes.proofs.Thinned.{marked_step, thin_step}
 use Rattle.lq_deletes.proofs.loss.thin.Goals as goal
 

@@ -1,6 +1,6 @@
 use Rattle.std.proofs.Common.{drop, map, ◌≡◌}
-use Rattle.lq_rows.specs.Answers.{Continues}
-use Rattle.lq_deletes.specs.Losses.{AreMarked, marks_of, with_thinned}
+use Rattle.lq_rows.specs.Stored.{Continues}
+use Rattle.lq_deletes.specs.Places.{AreMarked, marks_of, with_thinned}
 use Rattle.lq_deletes.proofs.loss.thin.Given as goal
 
 abbrev pub invariant-loop-loss : goal.invariant-loop-loss

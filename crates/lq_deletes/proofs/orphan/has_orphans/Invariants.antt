@@ -2,7 +2,7 @@ use Rattle.std.proofs.Common.{Bool, drop, ◌≡◌}
 use Rattle.std.specs.List.{list_any}
 use Rattle.lq_base.specs.declared.name.Name.{Name}
 use Rattle.lq_model.specs.Catalogue.{Table}
-use Rattle.lq_model.specs.ResultTests.{has_orphan}
+use Rattle.lq_model.specs.Plan.{has_orphan}
 use Rattle.lq_parts.specs.Steps.{tables_of}
 use Rattle.lq_deletes.proofs.orphan.has_orphans.Given as goal
 

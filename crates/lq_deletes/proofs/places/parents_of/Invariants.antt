@@ -1,6 +1,6 @@
 use Rattle.std.proofs.Common.{drop, ◌+◌, ◌≡◌}
 use Rattle.lq_parts.specs.Steps.{tables_of}
-use Rattle.lq_deletes.specs.Rows.{row_total}
+use Rattle.lq_deletes.specs.Places.{row_total}
 use Rattle.lq_deletes.proofs.PlaceLemmas.{Sought}
 use Rattle.lq_deletes.proofs.places.parents_of.Given as goal
 

@@ -1,5 +1,5 @@
 use Rattle.std.proofs.Common.{drop, ◌++◌, ◌≡◌}
-use Rattle.lq_deletes.specs.Rows.{numbered}
+use Rattle.lq_deletes.specs.Places.{numbered}
 use Rattle.lq_deletes.proofs.spread.marked.Given as goal
 
 abbrev pub invariant-loop-at : goal.invariant-loop-at

@@ -1,5 +1,5 @@
 use Rattle.std.proofs.Common.{◌≡◌, drop, vec_len}
-use Rattle.lq_deletes.specs.Noting.{notes}
+use Rattle.lq_deletes.specs.Places.{notes}
 use Rattle.lq_deletes.proofs.spread.note_all.Given as goal
 
 abbrev pub invariant-loop-node : goal.invariant-loop-node

@@ -1,5 +1,5 @@
 use Rattle.std.proofs.Common.{◌≡◌, ◌+◌, length, true}
-use Rattle.lq_deletes.specs.Spread.{are_below}
+use Rattle.lq_deletes.specs.Places.{are_below}
 use Rattle.lq_deletes.proofs.Notes.{Spreading, unmarked}
 use Rattle.lq_deletes.proofs.spread.spread.Given as goal
 

@@ -1,7 +1,7 @@
 use Rattle.std.proofs.Common.{drop, ◌++◌, ◌≡◌}
 use Rattle.std.specs.List.{flat_map}
 use Rattle.lq_parts.specs.Steps.{tables_of}
-use Rattle.lq_deletes.specs.Gone.{taken_in}
+use Rattle.lq_deletes.specs.Places.{taken_in}
 use Rattle.lq_deletes.proofs.taking.taken.Given as goal
 
 abbrev pub invariant-loop-entry : goal.invariant-loop-entry

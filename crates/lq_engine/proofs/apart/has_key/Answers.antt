@@ -1,4 +1,4 @@
-use Rattle.lq_model.specs.Reserved.{lock_key}
+use Rattle.lq_model.specs.NameSpaces.{lock_key}
 use Rattle.lq_engine.proofs.ApartLemmas.{shared_are}
 use Rattle.lq_engine.proofs.apart.has_key.Goals as goal
 

@@ -1,4 +1,4 @@
-use Rattle.lq_engine.specs.Users.{is_sought}
+use Rattle.lq_engine.specs.State.{is_sought}
 use Rattle.lq_engine.proofs.ApartLemmas.{inner_are}
 use Rattle.lq_engine.proofs.apart.inner_named.Goals as goal
 

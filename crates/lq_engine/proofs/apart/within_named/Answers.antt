@@ -1,4 +1,4 @@
-use Rattle.lq_model.specs.Reserved.{is_tracking}
+use Rattle.lq_model.specs.NameSpaces.{is_tracking}
 use Rattle.lq_engine.proofs.ApartLemmas.{within_are}
 use Rattle.lq_engine.proofs.apart.within_named.Goals as goal
 

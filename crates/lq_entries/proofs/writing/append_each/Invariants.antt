@@ -1,8 +1,7 @@
 use Rattle.std.proofs.Common.{◌≡◌, ◌≤◌, take}
 use Rattle.lq_entries.specs.Log.{IsWhole, crashes_in, gained, log_of}
 use Rattle.lq_journal.specs.State.{dialect_of, disk_of, limit_of}
-use Rattle.lq_store.specs.Crashes.{LeavesFront}
-use Rattle.lq_store.specs.Journal.{of_texts}
+use Rattle.lq_store.specs.Journal.{LeavesFront, of_texts}
 use Rattle.lq_entries.proofs.writing.append_each.Given as goal
 
 abbrev pub invariant-loop-entry : goal.invariant-loop-entry

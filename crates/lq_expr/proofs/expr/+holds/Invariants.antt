@@ -1,6 +1,6 @@
 use Rattle.std.proofs.Common.{◌≡◌, map, drop}
 use Rattle.std.specs.List.{list_all, list_any}
-use Rattle.lq_expr.specs.Value.{holds}
+use Rattle.lq_expr.specs.Spelled.{holds}
 use Rattle.lq_expr.proofs.expr.+holds.Given as goal
 
 abbrev pub invariant-all_hold-loop-part : goal.invariant-all_hold-loop-part

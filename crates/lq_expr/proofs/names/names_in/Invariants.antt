@@ -1,8 +1,7 @@
 use Rattle.std.proofs.Common.{◌≡◌, ◌++◌, option_map}
 use Rattle.lq_operators.specs.declared.operator.Operator.TheVariants.{Comma}
 use Rattle.lq_expr.specs.Cuts.{rest_of}
-use Rattle.lq_expr.specs.Grammar.{each}
-use Rattle.lq_expr.specs.Names.{label_name, names_in}
+use Rattle.lq_expr.specs.Grammar.{each, label_name, names_in}
 use Rattle.lq_expr.proofs.Measure.{words_left}
 use Rattle.lq_expr.proofs.names.names_in.Given as goal
 

@@ -1,6 +1,6 @@
 use Rattle.std.proofs.Common.{◌+◌, ◌-◌, ◌≤◌, ℕ, List, [], ◌∷◌, true, ap, arith, length, refl, subst, IfSome}
-use Rattle.lq_frames.specs.State.{Stands}
-use Rattle.lq_outside.specs.Bytes.{written}
+use Rattle.lq_frames.specs.Body.{Stands}
+use Rattle.lq_outside.specs.Crash.{written}
 use Rattle.lq_frames.proofs.Appended.{closed_entry}
 use Rattle.lq_gate.proofs.Gated.{in_turn, ready_after, journal_after}
 use Rattle.lq_gate.proofs.Crash.{first_moment, second_moment, first_torn, second_torn, on_err}

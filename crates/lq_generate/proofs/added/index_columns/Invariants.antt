@@ -1,5 +1,5 @@
 use Rattle.std.proofs.Common.{◌≡◌, ◌++◌, drop, map}
-use Rattle.lq_generate.specs.Added.{index_column_tree}
+use Rattle.lq_generate.specs.Created.{index_column_tree}
 use Rattle.lq_generate.proofs.added.index_columns.Given as goal
 
 abbrev pub invariant-loop-name : goal.invariant-loop-name

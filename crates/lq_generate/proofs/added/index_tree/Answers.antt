@@ -2,9 +2,8 @@ use Rattle.std.proofs.Common.{[], Some, ap, ◌∷◌}
 use Rattle.std.specs.Prelude.{codes, map}
 use Rattle.lq_base.specs.Name.{text_of}
 use Rattle.lq_tree.specs.declared.node.Node.{List as ListNode, Map as MapNode, Text as TextNode}
-use Rattle.lq_generate.specs.Added.{index_column_tree}
-use Rattle.lq_generate.specs.Created.{if_true}
-use Rattle.lq_generate.specs.Rows.{schema_at}
+use Rattle.lq_generate.specs.Created.{index_column_tree, if_true}
+use Rattle.lq_generate.specs.Types.{schema_at}
 use Rattle.lq_generate.proofs.Laid.{four}
 use Rattle.lq_generate.proofs.added.index_tree.Goals as goal
 

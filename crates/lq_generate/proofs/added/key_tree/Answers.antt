@@ -4,9 +4,8 @@ use Rattle.lq_base.specs.Name.{text_of}
 use Rattle.lq_tree.specs.declared.node.Node.{Map as MapNode, Text as TextNode}
 use Rattle.std.specs.Option.{option_map}
 use Rattle.lq_base.specs.declared.name.Name.{Name}
-use Rattle.lq_generate.specs.Added.{listed}
-use Rattle.lq_generate.specs.Created.{named_in}
-use Rattle.lq_generate.specs.Rows.{schema_at}
+use Rattle.lq_generate.specs.Created.{listed, named_in}
+use Rattle.lq_generate.specs.Types.{schema_at}
 use Rattle.lq_generate.proofs.Laid.{four}
 use Rattle.lq_generate.proofs.added.key_tree.Goals as goal
 

@@ -1,6 +1,6 @@
 use Rattle.std.proofs.Common.{◌≡◌, ◌++◌, drop}
 use Rattle.std.specs.List.{flat_map}
-use Rattle.lq_generate.specs.Added.{after_comma}
+use Rattle.lq_generate.specs.Created.{after_comma}
 use Rattle.lq_generate.proofs.added.listed_from.Given as goal
 
 abbrev pub invariant-loop-name : goal.invariant-loop-name

@@ -2,8 +2,8 @@ use Rattle.std.proofs.Common.{[], Some, ap, ◌∷◌}
 use Rattle.std.specs.Prelude.{codes}
 use Rattle.lq_base.specs.Name.{text_of}
 use Rattle.lq_tree.specs.declared.node.Node.{Map as MapNode, Text as TextNode}
-use Rattle.lq_generate.specs.Added.{listed}
-use Rattle.lq_generate.specs.Rows.{schema_at}
+use Rattle.lq_generate.specs.Created.{listed}
+use Rattle.lq_generate.specs.Types.{schema_at}
 use Rattle.lq_generate.proofs.Laid.{three}
 use Rattle.lq_generate.proofs.added.unique_tree.Goals as goal
 

@@ -3,7 +3,7 @@ use Rattle.std.specs.Prelude.{codes, map}
 use Rattle.lq_base.specs.Name.{text_of}
 use Rattle.lq_tree.specs.declared.node.Node.{List as ListNode, Map as MapNode, Text as TextNode}
 use Rattle.lq_generate.specs.Created.{column_tree}
-use Rattle.lq_generate.specs.Rows.{schema_at}
+use Rattle.lq_generate.specs.Types.{schema_at}
 use Rattle.lq_generate.proofs.Laid.{three}
 use Rattle.lq_generate.proofs.created.created_tree.Goals as goal
 

@@ -1,6 +1,5 @@
 use Rattle.std.proofs.Common.{◌≡◌, drop}
-use Rattle.lq_generate.specs.Faults.{created_fault, first_of}
-use Rattle.lq_generate.specs.Seen.{tables_in}
+use Rattle.lq_generate.specs.Faults.{created_fault, first_of, tables_in}
 use Rattle.lq_generate.proofs.faults.first_created.Given as goal
 
 abbrev pub invariant-loop-entry : goal.invariant-loop-entry

@@ -1,6 +1,5 @@
 use Rattle.std.proofs.Common.{◌≡◌, drop}
-use Rattle.lq_generate.specs.Faults.{first_of, foreign_faults}
-use Rattle.lq_generate.specs.Seen.{tables_in}
+use Rattle.lq_generate.specs.Faults.{first_of, foreign_faults, tables_in}
 use Rattle.lq_generate.proofs.faults.first_foreign.Given as goal
 
 abbrev pub invariant-loop-entry : goal.invariant-loop-entry

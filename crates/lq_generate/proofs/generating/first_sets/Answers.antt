@@ -2,7 +2,7 @@ use Rattle.std.proofs.Common.{[], ap, ◌∷◌}
 use Rattle.std.specs.List.{flat_map}
 use Rattle.std.specs.Prelude.{codes, map}
 use Rattle.lq_generate.specs.Generated.{added_items, sequence_item, table_item}
-use Rattle.lq_generate.specs.Seen.{tables_in}
+use Rattle.lq_generate.specs.Faults.{tables_in}
 use Rattle.lq_generate.proofs.Laid.{sets_three}
 use Rattle.lq_generate.proofs.generating.first_sets.Goals as goal
 

@@ -1,7 +1,6 @@
 use Rattle.std.proofs.Common.{ap, subst, ◌∙◌}
 use Rattle.std.specs.Prelude.{IfOk}
-use Rattle.lq_generate.specs.Outcome.{Generates, IsReadBack}
-use Rattle.lq_generate.specs.Seen.{tables_in, with_tables}
+use Rattle.lq_generate.specs.Faults.{Generates, IsReadBack, tables_in, with_tables}
 use Rattle.lq_generate.proofs.generating.generate.Goals as goal
 
 pub returns-clause-generates : goal.returns-clause-generates

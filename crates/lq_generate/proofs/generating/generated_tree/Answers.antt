@@ -3,8 +3,8 @@ use Rattle.std.specs.List.{flat_map}
 use Rattle.std.specs.Prelude.{codes, map}
 use Rattle.lq_tree.specs.declared.node.Node.{List as ListNode}
 use Rattle.lq_generate.specs.Generated.{first_sets, foreign_items, view_item}
-use Rattle.lq_generate.specs.Rows.{under}
-use Rattle.lq_generate.specs.Seen.{tables_in, with_tables}
+use Rattle.lq_generate.specs.Types.{under}
+use Rattle.lq_generate.specs.Faults.{tables_in, with_tables}
 use Rattle.lq_generate.proofs.Laid.{sets_three}
 use Rattle.lq_generate.proofs.generating.generated_tree.Goals as goal
 

@@ -1,4 +1,4 @@
-use Rattle.lq_generate.specs.Seen.{place_in, tables_in, with_tables}
+use Rattle.lq_generate.specs.Faults.{place_in, tables_in, with_tables}
 use Rattle.lq_generate.proofs.Outcome.{told_generates}
 use Rattle.lq_generate.proofs.generating.hindered.Goals as goal
 

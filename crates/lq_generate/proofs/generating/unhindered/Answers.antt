@@ -2,7 +2,7 @@ use Rattle.std.proofs.Common.{Ok, subst, sym, ◌≡◌}
 use Rattle.std.specs.Prelude.{IfOk}
 use Rattle.lq_jsontext.specs.JsonText.{IsWritable}
 use Rattle.lq_tree.specs.Json.{json_tree}
-use Rattle.lq_generate.specs.Seen.{tables_in, with_tables}
+use Rattle.lq_generate.specs.Faults.{tables_in, with_tables}
 use Rattle.lq_generate.proofs.Outcome.{sized_generates}
 use Rattle.lq_generate.proofs.generating.unhindered.Goals as goal
 

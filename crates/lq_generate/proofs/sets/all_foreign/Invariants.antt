@@ -1,7 +1,7 @@
 use Rattle.std.proofs.Common.{◌≡◌, ◌++◌, drop}
 use Rattle.std.specs.List.{flat_map}
 use Rattle.lq_generate.specs.Generated.{foreign_items}
-use Rattle.lq_generate.specs.Seen.{tables_in}
+use Rattle.lq_generate.specs.Faults.{tables_in}
 use Rattle.lq_generate.proofs.sets.all_foreign.Given as goal
 
 abbrev pub invariant-loop-entry : goal.invariant-loop-entry

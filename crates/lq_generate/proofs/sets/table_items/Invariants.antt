@@ -1,6 +1,6 @@
 use Rattle.std.proofs.Common.{◌≡◌, ◌++◌, drop, map}
 use Rattle.lq_generate.specs.Generated.{table_item}
-use Rattle.lq_generate.specs.Seen.{tables_in}
+use Rattle.lq_generate.specs.Faults.{tables_in}
 use Rattle.lq_generate.proofs.sets.table_items.Given as goal
 
 abbrev pub invariant-loop-entry : goal.invariant-loop-entry

@@ -1,5 +1,5 @@
 use Rattle.std.proofs.Common.{ap, ◌∙◌}
-use Rattle.lq_generate.specs.Users.{untracked}
+use Rattle.lq_generate.specs.Generated.{untracked}
 use Rattle.lq_generate.proofs.UsersTables.{users_are}
 use Rattle.lq_generate.proofs.users.users_tables.Goals as goal
 

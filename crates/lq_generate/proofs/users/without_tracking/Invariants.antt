@@ -1,6 +1,6 @@
 use Rattle.std.proofs.Common.{◌≡◌, ◌++◌, drop, map}
-use Rattle.lq_generate.specs.Seen.{table_in, tables_in}
-use Rattle.lq_generate.specs.Users.{untracked}
+use Rattle.lq_generate.specs.Faults.{table_in, tables_in}
+use Rattle.lq_generate.specs.Generated.{untracked}
 use Rattle.lq_generate.proofs.users.without_tracking.Given as goal
 
 abbrev pub invariant-loop-entry : goal.invariant-loop-entry

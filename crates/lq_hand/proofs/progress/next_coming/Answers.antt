@@ -1,7 +1,7 @@
 use Rattle.std.proofs.Common.{ap, rules, sym, ◌∙◌}
 use Rattle.std.specs.Prelude.{[], ◌++◌, ◌∷◌, ◌≡◌}
 use Rattle.lq_hand.proofs.InHand.{last_first}
-use Rattle.lq_hand.specs.Counts.{first_coming}
+use Rattle.lq_hand.specs.Way.{first_coming}
 use Rattle.lq_hand.proofs.progress.next_coming.Goals as goal
 
 pub returns-in-Some : goal.returns-in-Some

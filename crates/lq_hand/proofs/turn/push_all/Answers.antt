@@ -1,6 +1,6 @@
 use Rattle.std.proofs.Common.{ap, refl, rules, sym, ◌∙◌}
 use Rattle.std.specs.Prelude.{[], reverse, ◌++◌, ◌≡◌}
-use Rattle.lq_hand.specs.TurnCalls.{marked_calls}
+use Rattle.lq_hand.specs.Hand.{marked_calls}
 use Rattle.lq_hand.proofs.turn.push_all.Goals as goal
 
 pub loop-alloc-init : goal.loop-alloc-init

@@ -1,5 +1,5 @@
 use Rattle.std.specs.Prelude.{length, reverse, ◌++◌, ◌≡◌}
-use Rattle.lq_hand.specs.TurnCalls.{marked_calls}
+use Rattle.lq_hand.specs.Hand.{marked_calls}
 use Rattle.lq_hand.proofs.turn.push_all.Given as goal
 
 abbrev pub invariant-loop-alloc : goal.invariant-loop-alloc

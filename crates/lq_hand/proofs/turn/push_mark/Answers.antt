@@ -3,7 +3,7 @@ use Rattle.std.specs.Prelude.{OnOk, [], ◌∷◌}
 use Rattle.lq_turns.specs.declared.call.Call.TheVariants.{Execute}
 use Rattle.lq_turns.specs.declared.deed.Deed.TheVariants.{Locks}
 use Rattle.lq_turns.specs.declared.deed.OnLock.TheVariants.{Marked}
-use Rattle.lq_hand.specs.TurnCalls.{Lays}
+use Rattle.lq_hand.specs.Hand.{Lays}
 use Rattle.lq_hand.proofs.turn.push_mark.Goals as goal
 
 pub returns-in_err-text : goal.returns-in_err-text

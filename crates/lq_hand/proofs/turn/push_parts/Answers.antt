@@ -3,7 +3,7 @@ use Rattle.std.proofs.lemmas.Result.{on_ok_weaker}
 use Rattle.std.specs.Prelude.{[], ◌∷◌}
 use Rattle.lq_turns.specs.declared.call.Call.TheVariants.{Execute}
 use Rattle.lq_turns.specs.declared.deed.Deed.TheVariants.{Rows}
-use Rattle.lq_hand.specs.TurnCalls.{begun_calls}
+use Rattle.lq_hand.specs.Hand.{begun_calls}
 use Rattle.lq_hand.proofs.Laying.{then_lays}
 use Rattle.lq_hand.proofs.turn.push_parts.Goals as goal
 

@@ -3,7 +3,7 @@ use Rattle.std.specs.Prelude.{OnOk, [], refl, ◌∷◌}
 use Rattle.lq_turns.specs.declared.call.Call.TheVariants.{Execute}
 use Rattle.lq_turns.specs.declared.deed.Deed.TheVariants.{Locks}
 use Rattle.lq_turns.specs.declared.deed.OnLock.TheVariants.{Marked}
-use Rattle.lq_hand.specs.TurnCalls.{Lays, if_wanted}
+use Rattle.lq_hand.specs.Hand.{Lays, if_wanted}
 use Rattle.lq_hand.proofs.turn.push_unmark.Goals as goal
 
 pub returns-in_err-name : goal.returns-in_err-name

@@ -1,5 +1,5 @@
 use Rattle.std.proofs.Common.{length, ◌≡◌, ◌+◌}
-use Rattle.lq_turns.specs.Rollback.{places_until}
+use Rattle.lq_turns.specs.Script.{places_until}
 use Rattle.lq_kept.proofs.kept_rows.places_until.Given as goal
 
 abbrev pub invariant-loop-rest : goal.invariant-loop-rest

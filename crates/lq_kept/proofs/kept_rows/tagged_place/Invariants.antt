@@ -1,5 +1,5 @@
 use Rattle.std.proofs.Common.{length, ◌≡◌}
-use Rattle.lq_turns.specs.Rollback.{tagged_place}
+use Rattle.lq_turns.specs.Script.{tagged_place}
 use Rattle.lq_kept.proofs.kept_rows.tagged_place.Given as goal
 
 abbrev pub invariant-loop-row : goal.invariant-loop-row

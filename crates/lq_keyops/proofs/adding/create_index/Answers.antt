@@ -3,12 +3,9 @@ use Rattle.lq_arm.specs.Verdict.{verdict_of}
 use Rattle.lq_arm.proofs.Arms.{agree}
 use Rattle.lq_decide.specs.Faults.{create_index_faults, are_twins}
 use Rattle.lq_decide.proofs.Keys.{create_index_judged}
-use Rattle.lq_model.specs.AddConstraint as spec
-use Rattle.lq_model.specs.Catalogue.{table_of}
-use Rattle.lq_model.specs.NameSpaces.{index_taken}
-use Rattle.lq_model.specs.Names.{repeats}
-use Rattle.lq_model.specs.Reserved.{takes_lock_key}
-use Rattle.lq_model.specs.TableNames.{column_missing, placed}
+use Rattle.lq_model.specs.Constraints as spec
+use Rattle.lq_model.specs.Catalogue.{table_of, repeats, column_missing, placed}
+use Rattle.lq_model.specs.NameSpaces.{index_taken, takes_lock_key}
 use Rattle.lq_keyops.proofs.Ended as lemma
 use Rattle.lq_keyops.proofs.adding.create_index.Goals as goal
 use Rattle.lq_base.specs.Name.{beside}

@@ -1,5 +1,5 @@
 use Rattle.std.proofs.Common.{Some, ap, is_some, subst, sym}
-use Rattle.lq_keyops.specs.AllTables.{Finds}
+use Rattle.lq_keyops.specs.Targets.{Finds}
 use Rattle.lq_keyops.proofs.TableLemmas as lemma
 use Rattle.lq_keyops.proofs.anywhere.drop_everywhere.Goals as goal
 

@@ -2,7 +2,7 @@ use Rattle.std.proofs.Common.{None, Ok, ap, sym, ◌∙◌}
 use Rattle.lq_decide.specs.Faults.{no_faults}
 use Rattle.lq_decide.proofs.Tables.{drop_any_index_judged}
 use Rattle.lq_arm.proofs.Arms as arm
-use Rattle.lq_model.specs.DropConstraint as spec
+use Rattle.lq_model.specs.Constraints as spec
 use Rattle.lq_keyops.proofs.anywhere.drop_index_anywhere.Goals as goal
 
 pub returns-in-Err : goal.returns-in-Err

@@ -1,7 +1,7 @@
 use Rattle.std.proofs.Common.{Some, ap, rules, sym, ◌∙◌, ◌≡◌}
 use Rattle.lq_chain.specs.History.{changed}
 use Rattle.lq_model.specs.Catalogue.{table_of}
-use Rattle.lq_model.specs.DropConstraint as spec
+use Rattle.lq_model.specs.Constraints as spec
 use Rattle.lq_keyops.proofs.Ended.{shaped_there}
 use Rattle.lq_keyops.proofs.anywhere.drop_there.Goals as goal
 

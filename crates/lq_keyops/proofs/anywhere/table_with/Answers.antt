@@ -1,6 +1,6 @@
 use Rattle.std.proofs.Common.{arith, sym, ◌&&◌, ◌∙◌}
 use Rattle.lq_base.specs.Name.{is_named}
-use Rattle.lq_model.specs.DropConstraint.{has_index_in}
+use Rattle.lq_model.specs.Constraints.{has_index_in}
 use Rattle.lq_model.proofs.Lists.{named_itself}
 use Rattle.lq_keyops.proofs.TableLemmas.{any_at}
 use Rattle.lq_keyops.proofs.anywhere.table_with.Goals as goal

@@ -1,6 +1,6 @@
 use Rattle.std.proofs.Common.{drop, ◌≡◌}
 use Rattle.std.specs.List.{list_any}
-use Rattle.lq_model.specs.DropConstraint.{has_index_in}
+use Rattle.lq_model.specs.Constraints.{has_index_in}
 use Rattle.lq_keyops.proofs.anywhere.table_with.Given as goal
 
 abbrev pub invariant-loop-entry : goal.invariant-loop-entry

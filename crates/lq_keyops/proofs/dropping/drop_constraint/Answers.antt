@@ -4,8 +4,8 @@ use Rattle.lq_arm.proofs.Arms.{agree}
 use Rattle.lq_decide.specs.Faults.{less_faults}
 use Rattle.lq_decide.proofs.Keys.{drop_constraint_judged}
 use Rattle.lq_model.specs.Catalogue.{table_of, the_table}
-use Rattle.lq_model.specs.DropConstraint as spec
-use Rattle.lq_model.specs.Needs.{has_numbered}
+use Rattle.lq_model.specs.Constraints as spec
+use Rattle.lq_model.specs.Tables.{has_numbered}
 use Rattle.lq_keyops.proofs.Ended as lemma
 use Rattle.lq_keyops.proofs.dropping.drop_constraint.Goals as goal
 

@@ -1,8 +1,8 @@
 use Rattle.std.proofs.Common.{map, rules, subst, sym, ◌||◌, ◌∙◌, ◌∷◌, ◌≡◌}
 use Rattle.std.specs.BTreeSet.{contains}
 use Rattle.std.specs.List.{list_any}
-use Rattle.lq_model.specs.Row.{has_equals, picked}
-use Rattle.lq_rows.specs.Order.{values_cmp}
+use Rattle.lq_model.specs.Catalogue.{has_equals, picked}
+use Rattle.lq_rows.specs.Stored.{values_cmp}
 use Rattle.lq_keyops.proofs.MetLemmas as lemma
 use Rattle.lq_keyops.proofs.equal.has_equals_in.Goals as goal
 

@@ -1,6 +1,6 @@
 use Rattle.std.proofs.Common.{rules, sym, ◌∙◌, ◌≡◌}
 use Rattle.std.specs.List.{list_any}
-use Rattle.lq_model.specs.Row.{by_name, is_null}
+use Rattle.lq_model.specs.Catalogue.{by_name, is_null}
 use Rattle.lq_keyops.proofs.MetLemmas.{nulls_are}
 use Rattle.lq_keyops.proofs.equal.has_null_in.Goals as goal
 

@@ -1,8 +1,7 @@
 use Rattle.std.proofs.Common.{List, ◌||◌, ◌≡◌}
 use Rattle.std.specs.BTreeSet.{contains}
 use Rattle.lq_base.specs.declared.value.Value.{Value}
-use Rattle.lq_rows.specs.Order.{values_cmp}
-use Rattle.lq_rows.specs.Stored.{has_values}
+use Rattle.lq_rows.specs.Stored.{values_cmp, has_values}
 use Rattle.lq_keyops.proofs.equal.values_of.Given as goal
 
 abbrev pub invariant-loop-row : goal.invariant-loop-row

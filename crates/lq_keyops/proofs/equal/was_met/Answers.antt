@@ -1,6 +1,6 @@
 use Rattle.std.proofs.Common.{rules, sym, true, ◌≡◌}
 use Rattle.std.specs.List.{list_any}
-use Rattle.lq_model.specs.Row.{is_null, picked}
+use Rattle.lq_model.specs.Catalogue.{is_null, picked}
 use Rattle.lq_rows.proofs.SeenLemmas as lemma
 use Rattle.lq_keyops.proofs.equal.was_met.Goals as goal
 

@@ -5,14 +5,12 @@ use Rattle.lq_arm.specs.Verdict.{verdict_of}
 use Rattle.lq_arm.proofs.Arms.{agree}
 use Rattle.lq_decide.specs.Faults.{add_foreign_key_faults}
 use Rattle.lq_decide.proofs.Keys.{add_foreign_key_judged}
-use Rattle.lq_model.specs.AddConstraint as spec
-use Rattle.lq_model.specs.Catalogue.{table_of, the_table}
-use Rattle.lq_model.specs.CreateTable.{target_missing}
+use Rattle.lq_model.specs.Constraints as spec
+use Rattle.lq_model.specs.Catalogue.{table_of, the_table, repeats, same_names, column_missing, key_list, target_lists}
+use Rattle.lq_model.specs.Tables.{target_missing}
 use Rattle.lq_model.specs.Kinds.{kinds_at, same_kinds}
 use Rattle.lq_model.specs.NameSpaces.{foreign_taken}
-use Rattle.lq_model.specs.Names.{repeats, same_names}
-use Rattle.lq_model.specs.TableNames.{column_missing, key_list, target_lists}
-use Rattle.lq_keyops.specs.Parents.{lacks_parent_in}
+use Rattle.lq_keyops.specs.Targets.{lacks_parent_in}
 use Rattle.lq_keyops.proofs.Ended as lemma
 use Rattle.lq_keyops.proofs.TargetLemmas.{lists_are}
 use Rattle.lq_keyops.proofs.foreign.add_foreign_key.Goals as goal

@@ -1,9 +1,8 @@
 use Rattle.std.proofs.Common.{not, rules, ◌&&◌, ◌∙◌, ◌≡◌}
 use Rattle.std.specs.BTreeSet.{contains}
 use Rattle.std.specs.List.{list_any}
-use Rattle.lq_model.specs.Row.{is_null, picked}
-use Rattle.lq_rows.specs.Order.{values_cmp}
-use Rattle.lq_rows.specs.Stored.{ShowsRows}
+use Rattle.lq_model.specs.Catalogue.{is_null, picked}
+use Rattle.lq_rows.specs.Stored.{values_cmp, ShowsRows}
 use Rattle.lq_keyops.proofs.MetLemmas.{orphans_are}
 use Rattle.lq_keyops.proofs.foreign.has_orphan.Goals as goal
 

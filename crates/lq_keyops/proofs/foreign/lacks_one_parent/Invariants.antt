@@ -1,8 +1,8 @@
 use Rattle.std.proofs.Common.{not, ◌&&◌, ◌≡◌}
 use Rattle.std.specs.BTreeSet.{contains}
 use Rattle.std.specs.List.{list_any}
-use Rattle.lq_model.specs.Row.{is_null, picked}
-use Rattle.lq_rows.specs.Order.{values_cmp}
+use Rattle.lq_model.specs.Catalogue.{is_null, picked}
+use Rattle.lq_rows.specs.Stored.{values_cmp}
 use Rattle.lq_keyops.proofs.foreign.lacks_one_parent.Given as goal
 
 abbrev pub invariant-loop-row : goal.invariant-loop-row

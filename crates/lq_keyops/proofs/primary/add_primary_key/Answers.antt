@@ -3,12 +3,9 @@ use Rattle.lq_arm.specs.Verdict.{verdict_of}
 use Rattle.lq_arm.proofs.Arms.{agree}
 use Rattle.lq_decide.specs.Faults.{add_primary_key_faults, are_twins, has_null_in}
 use Rattle.lq_decide.proofs.Keys.{add_primary_key_judged}
-use Rattle.lq_model.specs.AddConstraint as spec
-use Rattle.lq_model.specs.Catalogue.{table_of}
-use Rattle.lq_model.specs.NameSpaces.{key_taken}
-use Rattle.lq_model.specs.Names.{repeats}
-use Rattle.lq_model.specs.Reserved.{takes_lock_key}
-use Rattle.lq_model.specs.TableNames.{column_missing, placed}
+use Rattle.lq_model.specs.Constraints as spec
+use Rattle.lq_model.specs.Catalogue.{table_of, repeats, column_missing, placed}
+use Rattle.lq_model.specs.NameSpaces.{key_taken, takes_lock_key}
 use Rattle.lq_keyops.proofs.Ended as lemma
 use Rattle.lq_keyops.proofs.primary.add_primary_key.Goals as goal
 use Rattle.lq_base.specs.Name.{beside}

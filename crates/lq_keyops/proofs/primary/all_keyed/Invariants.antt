@@ -1,5 +1,5 @@
 use Rattle.std.proofs.Common.{Some, map, take, ◌≡◌}
-use Rattle.lq_model.specs.CreateTable.{key_column}
+use Rattle.lq_model.specs.Tables.{key_column}
 use Rattle.lq_keyops.proofs.primary.all_keyed.Given as goal
 
 abbrev pub invariant-loop-column : goal.invariant-loop-column

@@ -1,5 +1,5 @@
 use Rattle.std.proofs.Common.{drop, ◌≡◌}
-use Rattle.lq_model.specs.Names as spaces
+use Rattle.lq_model.specs.Catalogue as spaces
 use Rattle.lq_keyops.proofs.targets.same_names.Given as goal
 
 abbrev pub invariant-loop-x : goal.invariant-loop-x

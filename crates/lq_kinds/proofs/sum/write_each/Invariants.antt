@@ -1,5 +1,5 @@
 use Rattle.std.proofs.Common.{◌≡◌, ◌++◌, length, map}
-use Rattle.lq_model.specs.Canon.{canonical_each}
+use Rattle.lq_model.specs.Changes.{canonical_each}
 use Rattle.lq_kinds.specs.AnyChange.{canonical_of}
 use Rattle.lq_kinds.proofs.sum.write_each.Given as goal
 

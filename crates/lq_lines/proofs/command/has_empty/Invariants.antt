@@ -1,6 +1,6 @@
 use Rattle.std.proofs.Common.{◌≡◌, drop, map}
 use Rattle.std.specs.List.{list_any}
-use Rattle.lq_lines.specs.Commands.{is_empty}
+use Rattle.lq_lines.specs.File.{is_empty}
 use Rattle.lq_lines.proofs.command.has_empty.Given as goal
 
 abbrev pub invariant-loop-word : goal.invariant-loop-word

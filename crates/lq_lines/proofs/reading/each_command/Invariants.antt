@@ -1,6 +1,6 @@
 use Rattle.std.proofs.Common.{◌≡◌, ◌++◌, drop, map, option_map}
-use Rattle.lq_cli.specs.Values.{each}
-use Rattle.lq_lines.specs.Commands.{command_of}
+use Rattle.lq_cli.specs.Options.{each}
+use Rattle.lq_lines.specs.File.{command_of}
 use Rattle.lq_lines.proofs.reading.each_command.Given as goal
 
 abbrev pub invariant-loop-text : goal.invariant-loop-text

@@ -1,5 +1,5 @@
 use Rattle.std.proofs.Common.{rules, []}
-use Rattle.lq_lines.specs.Steps.{step_of}
+use Rattle.lq_lines.specs.File.{step_of}
 use Rattle.lq_lines.proofs.EachLemmas.{line_goes, line_stops}
 use Rattle.lq_lines.proofs.Faults.{carried}
 use Rattle.lq_lines.proofs.steps.each_line.Goals as goal

@@ -1,7 +1,7 @@
 use Rattle.std.proofs.Common.{◌≡◌, ◌++◌, drop, map, option_map}
 use Rattle.std.specs.List.{flat_map}
-use Rattle.lq_cli.specs.Values.{each}
-use Rattle.lq_lines.specs.Steps.{numbers_in, step_of}
+use Rattle.lq_cli.specs.Options.{each}
+use Rattle.lq_lines.specs.File.{numbers_in, step_of}
 use Rattle.lq_lines.proofs.steps.each_line.Given as goal
 
 abbrev pub invariant-loop-line : goal.invariant-loop-line

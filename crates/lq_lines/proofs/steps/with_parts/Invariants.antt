@@ -1,6 +1,6 @@
 use Rattle.std.proofs.Common.{◌≡◌, ◌++◌, drop, filter, map, option_map}
-use Rattle.lq_cli.specs.Values.{each}
-use Rattle.lq_lines.specs.Steps.{is_word, step_of}
+use Rattle.lq_cli.specs.Options.{each}
+use Rattle.lq_lines.specs.File.{is_word, step_of}
 use Rattle.lq_lines.proofs.steps.with_parts.Given as goal
 
 abbrev pub invariant-loop-part : goal.invariant-loop-part

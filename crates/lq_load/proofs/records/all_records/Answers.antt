@@ -2,7 +2,7 @@ use Rattle.std.proofs.Common.{arith, length, map, sym, ◌+◌}
 use Rattle.csv.specs.Reading.{strip_bom}
 use Rattle.csv.specs.Records.{fields_of}
 use Rattle.csv.specs.declared.parser.State.TheVariants as st
-use Rattle.lq_load.specs.Records.{config, records_in}
+use Rattle.lq_load.specs.LoadKeys.{config, records_in}
 use Rattle.lq_load.proofs.All.{all_found}
 use Rattle.lq_load.proofs.records.all_records.Goals as goal
 

@@ -1,6 +1,6 @@
 use Rattle.std.proofs.Common.{refl, ◌++◌, ◌∙◌}
 use Rattle.lq_model.proofs.WentOn.{after, on_err, over, stays}
-use Rattle.lq_model.specs.Canon.{canonical_values}
+use Rattle.lq_model.specs.Changes.{canonical_values}
 use Rattle.lq_load.specs.LoadData.{lists}
 use Rattle.lq_load.proofs.RowsWritten.{all_written, one_written}
 use Rattle.lq_load.proofs.written.write_rows.Goals as goal

@@ -1,5 +1,5 @@
 use Rattle.std.proofs.Common.{drop, ◌++◌, ◌≡◌}
-use Rattle.lq_model.specs.Canon.{GoesOn, canonical_values}
+use Rattle.lq_model.specs.Changes.{GoesOn, canonical_values}
 use Rattle.lq_load.specs.LoadData.{lists}
 use Rattle.lq_load.proofs.written.write_rows.Given as goal
 

@@ -1,5 +1,5 @@
 use Rattle.std.proofs.Common.{◌≡◌, drop, false, Ok}
-use Rattle.lq_frames.specs.Journal.{has_state}
+use Rattle.lq_frames.specs.Body.{has_state}
 use Rattle.lq_loading.specs.Raise.{IsAt}
 use Rattle.lq_entries.specs.Load.{folded}
 use Rattle.lq_loading.proofs.loading.run_entries.Given as goal

@@ -1,7 +1,7 @@
 use Rattle.std.proofs.Common.{◌≡◌, ◌&&◌, refl}
 use Rattle.lq_base.specs.declared.memory.NoMemory.{NoMemory}
 use Rattle.lq_loading.proofs.TwinRows.{identity_in, its_identity, order_in, sees}
-use Rattle.lq_loading.specs.Twins.{IdentityKey}
+use Rattle.lq_loading.specs.Raise.{IdentityKey}
 use Rattle.lq_loading.proofs.twins.see.Goals as goal
 use Rattle.lq_loading.proofs.twins.see.Goals.{then-is_new, else-is_new}
 

@@ -4,8 +4,8 @@ use Rattle.lq_hand.specs.Hand.{IsReady, calls_left, hand_place, place_of}
 use Rattle.lq_run.proofs.Counting.{rose_later}
 use Rattle.lq_run.proofs.Ending.{ready_at}
 use Rattle.lq_run.proofs.Since.{leave_none, leave_then}
-use Rattle.lq_run.specs.NoChanges.{no_changes}
-use Rattle.lq_store.specs.State.{is_open}
+use Rattle.lq_run.specs.Stands.{no_changes}
+use Rattle.lq_store.specs.Journal.{is_open}
 use Rattle.lq_turns.specs.Rest.{NoMore}
 use Rattle.lq_mending.proofs.Crashed.{taken_crash}
 use Rattle.lq_mending.proofs.Making.{here, is_disk_made, met, reaches, shorter}

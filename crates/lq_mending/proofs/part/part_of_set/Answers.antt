@@ -1,15 +1,13 @@
 use Rattle.std.proofs.Common.{ap, rules, subst, sym, ◌∙◌}
 use Rattle.std.specs.List.{list_all}
 use Rattle.std.specs.Prelude.{List, Some, false, true, ◌≡◌, ◌≤◌}
-use Rattle.laws_repair.specs.LastText.{is_mark_text}
-use Rattle.laws_repair.specs.Mended.{by_of}
-use Rattle.lq_kinds.specs.AnyChange.{is_for}
-use Rattle.lq_kinds.specs.Dialects.{is_block_for}
+use Rattle.laws_repair.specs.Repair.{is_mark_text, by_of}
+use Rattle.lq_kinds.specs.AnyChange.{is_for, is_block_for}
 use Rattle.lq_kinds.specs.declared.any_change.AnyChange.{AnyChange}
 use Rattle.lq_model.proofs.Lists.{and_left}
 use Rattle.lq_report.specs.Mark.{Marked}
 use Rattle.lq_seen.specs.View.{any_meaning, view}
-use Rattle.lq_turns.specs.Effects.{statements_of}
+use Rattle.lq_turns.specs.Set.{statements_of}
 use Rattle.lq_unrecorded.specs.Part.{is_back}
 use Rattle.lq_mending.proofs.Passing.{all_stated, all_within, can_of, is_the_part, may_be, may_not, no_memory}
 use Rattle.lq_mending.specs.Undoes.{can_undo, unless_undone}

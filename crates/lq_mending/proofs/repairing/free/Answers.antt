@@ -1,7 +1,7 @@
 use Rattle.std.proofs.Common.{ap, subst, sym, true, ◌≡◌, ◌∙◌}
 use Rattle.std.specs.Prelude.{Err}
 use Rattle.lq_run.proofs.Counting.{end_disk, is_the_disk}
-use Rattle.lq_run.specs.Faults.{is_disk_end}
+use Rattle.lq_run.specs.Beside.{is_disk_end}
 use Rattle.lq_turns.specs.Script.{closing}
 use Rattle.lq_turns.specs.Session.{called}
 use Rattle.lq_mending.proofs.Freed.{freeing_crash, frees, frees_not, shut_there}

@@ -2,9 +2,8 @@ use Rattle.std.proofs.Common.{true, ◌≡◌, ◌≤◌}
 use Rattle.std.specs.List.{list_all}
 use Rattle.std.specs.Prelude.{List, length}
 use Rattle.laws_repair.specs.Repair.{undo_calls}
-use Rattle.lq_model.specs.Statement.{is_statement}
-use Rattle.lq_store.specs.Crashes.{CrashesLeave}
-use Rattle.lq_store.specs.State.{State}
+use Rattle.lq_model.specs.Step.{is_statement}
+use Rattle.lq_store.specs.Journal.{CrashesLeave, State}
 use Rattle.lq_turns.specs.Session.{Session}
 use Rattle.lq_turns.specs.declared.call.Call.{Call}
 use Rattle.lq_mending.proofs.Whole.{Got}

@@ -5,7 +5,7 @@ use Rattle.lq_reverse.specs.Back.{back}
 use Rattle.lq_run.proofs.Since.{leave_none}
 use Rattle.lq_mending.proofs.Taken.{comes_at, disk, full, full_crash, full_open, goes, lack, lack_crash, lack_open, nobody, refused, refused_crash, refused_open, refused_so, taking_crash}
 use Rattle.lq_mending.proofs.Onward.{end_before}
-use Rattle.lq_mending.specs.Refusing.{refused_from}
+use Rattle.lq_mending.specs.Comes.{refused_from}
 use Rattle.lq_mending.proofs.taking_back.take_back.Goals as goal
 
 pub make_all-requires-clause-comes : goal.make_all-requires-clause-comes

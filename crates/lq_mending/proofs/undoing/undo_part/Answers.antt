@@ -2,10 +2,10 @@ use Rattle.std.proofs.Common.{subst, sym, ◌∙◌}
 use Rattle.std.specs.List.{list_all}
 use Rattle.std.specs.Prelude.{List, None, Result, take, true, ◌≡◌}
 use Rattle.laws_repair.specs.Repair.{repair_calls}
-use Rattle.lq_model.specs.Statement.{is_statement}
+use Rattle.lq_model.specs.Step.{is_statement}
 use Rattle.lq_model.specs.declared.statement.Statement.{Statement}
 use Rattle.lq_mending.proofs.Undone.{all_first, answers_by, disk_by, full_by, leaves_by, tells_by}
-use Rattle.lq_mending.specs.Refusing.{back_refused}
+use Rattle.lq_mending.specs.Comes.{back_refused}
 use Rattle.lq_mending.specs.Undoes.{Answers, FullBy, LeavesBy, Made, TellsBy}
 use Rattle.lq_mending.specs.declared.outcome.RepairFault.{RepairFault}
 use Rattle.lq_mending.specs.declared.outcome.Repaired.{Repaired}

@@ -1,7 +1,7 @@
 use Rattle.std.proofs.Common.{Err, ap, sym, ◌∙◌}
-use Rattle.lq_base.specs.Character.{has_control}
+use Rattle.lq_base.specs.Number.{has_control}
 use Rattle.lq_base.specs.Name.{is_name}
-use Rattle.lq_model.specs.DefaultName.{cut}
+use Rattle.lq_model.specs.Sound.{cut}
 use Rattle.lq_model.proofs.DefaultNames.{by_default}
 use Rattle.lq_model.proofs.Lists.{true_false}
 use Rattle.lq_model.proofs.default_name.default_name.Goals as goal

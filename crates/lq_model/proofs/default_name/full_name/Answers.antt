@@ -1,6 +1,6 @@
 use Rattle.std.proofs.Common.{ap, rules, sym, ◌∙◌, ◌++◌, ◌≡◌, string_bytes}
 use Rattle.std.proofs.lemmas.List.{append-nil}
-use Rattle.lq_base.specs.Character.{has_control}
+use Rattle.lq_base.specs.Number.{has_control}
 use Rattle.lq_base.specs.Name.{text_of}
 use Rattle.lq_model.proofs.DefaultNames.{clean_joined, name_clean, prefix_clean}
 use Rattle.lq_model.proofs.default_name.full_name.Goals as goal

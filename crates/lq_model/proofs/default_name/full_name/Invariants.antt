@@ -1,6 +1,6 @@
 use Rattle.std.proofs.Common.{◌≡◌, ◌++◌, take, codes, false, string_bytes}
 use Rattle.std.specs.List.{flat_map}
-use Rattle.lq_base.specs.Character.{has_control}
+use Rattle.lq_base.specs.Number.{has_control}
 use Rattle.lq_base.specs.Name.{text_of}
 use Rattle.lq_model.proofs.default_name.full_name.Given as goal
 

@@ -1,6 +1,6 @@
 use Rattle.std.proofs.Common.{◌≡◌, ◌++◌, drop}
-use Rattle.lq_model.specs.Canon.{GoesOn, canonical_values}
-use Rattle.lq_model.specs.Written.{maps}
+use Rattle.lq_model.specs.Changes.{GoesOn, canonical_values}
+use Rattle.lq_model.specs.TakesBack.{maps}
 use Rattle.lq_model.proofs.written.write_maps.Given as goal
 
 abbrev pub invariant-loop-item : goal.invariant-loop-item

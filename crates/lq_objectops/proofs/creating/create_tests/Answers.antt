@@ -1,13 +1,10 @@
 use Rattle.std.proofs.Common.{None, Some, ap, refl, rules, sym, ◌||◌, ◌∙◌, ◌≡◌}
 use Rattle.lq_arm.specs.Verdict.{verdict_of}
 use Rattle.lq_arm.proofs.Arms.{agree, early}
-use Rattle.lq_model.specs.Catalogue.{table_of}
+use Rattle.lq_model.specs.Catalogue.{table_of, repeats, column_missing}
 use Rattle.lq_model.specs.Comparison.{compares_wrongly}
-use Rattle.lq_model.specs.Names.{repeats}
-use Rattle.lq_model.specs.Query.{lacks_column, listed}
-use Rattle.lq_model.specs.TableNames.{column_missing}
+use Rattle.lq_model.specs.Views.{lacks_column, listed, is_count}
 use Rattle.lq_model.specs.Truth.{names_in}
-use Rattle.lq_model.specs.Views.{is_count}
 use Rattle.lq_objectops.proofs.Objects as lemma
 use Rattle.lq_objectops.proofs.creating.create_tests.Goals as goal
 

@@ -3,7 +3,7 @@ use Rattle.std.proofs.lemmas.Int.{to_z-of_z}
 use mir.Syntax.{w128}
 use mir.Val.{SFits}
 use Rattle.lq_model.specs.NameSpaces.{is_taken}
-use Rattle.lq_model.specs.Sequences as spec
+use Rattle.lq_model.specs.Views as spec
 use Rattle.lq_model.proofs.Lists.{or_left}
 use Rattle.lq_model.proofs.Sequences.{free_sequence}
 use Rattle.lq_decide.specs.Faults.{no_faults}

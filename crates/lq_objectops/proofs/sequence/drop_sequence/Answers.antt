@@ -1,5 +1,5 @@
 use Rattle.std.proofs.Common.{sym, ◌∙◌}
-use Rattle.lq_model.specs.Sequences as spec
+use Rattle.lq_model.specs.Views as spec
 use Rattle.lq_decide.specs.Faults.{no_faults}
 use Rattle.lq_decide.proofs.Views.{drop_sequence_judged}
 use Rattle.lq_rows.proofs.Continued.{goes_on}

@@ -2,7 +2,7 @@ use Rattle.std.proofs.Common.{Ok, ap, sym, ◌∙◌}
 use Rattle.lq_chain.specs.History.{changed}
 use Rattle.lq_model.specs.Catalogue.{with_sequence, without_sequence}
 use Rattle.lq_model.specs.NameSpaces.{is_taken}
-use Rattle.lq_model.specs.Sequences as spec
+use Rattle.lq_model.specs.Views as spec
 use Rattle.lq_model.proofs.Lists.{or_left}
 use Rattle.lq_decide.specs.Faults.{no_faults}
 use Rattle.lq_decide.proofs.Views.{rename_sequence_judged}

@@ -2,7 +2,7 @@ use Rattle.std.proofs.Common.{Err, Ok, ap, rules, sym, ◌∙◌, ◌≡◌}
 use Rattle.lq_chain.specs.History.{changed}
 use Rattle.lq_model.specs.Catalogue.{with_view, without_view}
 use Rattle.lq_model.specs.NameSpaces.{is_taken}
-use Rattle.lq_model.specs.Rename as spec
+use Rattle.lq_model.specs.Tables as spec
 use Rattle.lq_model.proofs.Lists.{or_left}
 use Rattle.lq_decide.specs.Faults.{no_faults}
 use Rattle.lq_decide.proofs.Views.{rename_view_judged}

@@ -1,6 +1,6 @@
 use Rattle.std.proofs.Common.{Bool, drop, ◌≡◌}
 use Rattle.std.specs.List.{list_any}
-use Rattle.lq_model.specs.ResultTests.{lacks_parent}
+use Rattle.lq_model.specs.Plan.{lacks_parent}
 use Rattle.lq_model.specs.declared.constraint.ForeignKey.{ForeignKey}
 use Rattle.lq_orphans.proofs.orphan.has_orphan.Given as goal
 

@@ -1,5 +1,5 @@
 use Rattle.std.proofs.Common.{◌≡◌, length}
-use Rattle.lq_outside.specs.Folder.{held_in}
+use Rattle.lq_outside.specs.Forms.{held_in}
 use Rattle.lq_outside.proofs.folder.find.Given as goal
 
 abbrev pub invariant-loop-rest : goal.invariant-loop-rest

@@ -1,5 +1,5 @@
 use Rattle.std.proofs.Common.{subst}
-use Rattle.lq_outside.specs.Folder.{Notes}
+use Rattle.lq_outside.specs.Forms.{Notes}
 use Rattle.lq_outside.proofs.Listing.{listing_none, listing_more}
 use Rattle.lq_outside.proofs.folder.paths_under.Goals as goal
 

@@ -1,5 +1,5 @@
 use Rattle.std.proofs.Common.{◌≡◌, length}
-use Rattle.lq_outside.specs.Sink.{Took}
+use Rattle.lq_outside.specs.Forms.{Took}
 use Rattle.lq_outside.proofs.pieces.write_all.Given as goal
 
 abbrev pub invariant-loop-rest : goal.invariant-loop-rest

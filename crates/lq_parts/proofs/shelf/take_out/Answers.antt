@@ -1,5 +1,5 @@
 use Rattle.std.proofs.Common.{rules, ◌≡◌}
-use Rattle.lq_parts.specs.Entries.{position_of}
+use Rattle.lq_parts.specs.Taken.{position_of}
 use Rattle.lq_parts.proofs.EntryLemmas.{ordered_less, remove_at}
 use Rattle.lq_parts.proofs.shelf.take_out.Goals as goal
 

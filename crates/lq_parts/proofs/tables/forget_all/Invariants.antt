@@ -1,5 +1,5 @@
 use Rattle.std.proofs.Common.{vec_len, ◌≡◌}
-use Rattle.lq_parts.specs.Entries.{IsOrdered}
+use Rattle.lq_parts.specs.Taken.{IsOrdered}
 use Rattle.lq_parts.specs.Steps.{tables_of}
 use Rattle.lq_parts.proofs.tables.forget_all.Given as goal
 

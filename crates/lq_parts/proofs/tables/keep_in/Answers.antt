@@ -2,7 +2,7 @@ use Rattle.std.proofs.Common.{ap, length, refl, rules, ◌∙◌, ◌≡◌}
 use Rattle.lq_chain.specs.History.{changed}
 use Rattle.lq_chain.specs.Marks.{kept_rows}
 use Rattle.lq_model.specs.Catalogue.{Table}
-use Rattle.lq_parts.specs.Entries.{position_of}
+use Rattle.lq_parts.specs.Taken.{position_of}
 use Rattle.lq_parts.specs.Steps.{Entries}
 use Rattle.lq_rows.specs.Stored.{rows_of, with_rows}
 use Rattle.lq_parts.proofs.StepLemmas as lemma

@@ -1,6 +1,6 @@
 use Rattle.std.proofs.Common.{rules, ◌≡◌}
 use Rattle.std.specs.List.{insert}
-use Rattle.lq_parts.specs.Entries.{place_of}
+use Rattle.lq_parts.specs.Taken.{place_of}
 use Rattle.lq_parts.specs.Steps.{Entries}
 use Rattle.lq_parts.proofs.StepLemmas as lemma
 use Rattle.lq_parts.proofs.tables.put_in.Goals as goal

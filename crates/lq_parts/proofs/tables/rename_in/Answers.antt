@@ -1,6 +1,6 @@
 use Rattle.std.proofs.Common.{length, rules, subst, sym, ◌<◌, ◌≡◌, ◌≤◌}
 use Rattle.std.specs.List.{insert, remove}
-use Rattle.lq_parts.specs.Entries.{place_of, position_of}
+use Rattle.lq_parts.specs.Taken.{place_of, position_of}
 use Rattle.lq_parts.specs.Steps.{Entries, moved}
 use Rattle.lq_parts.proofs.EntryLemmas.{ordered_less}
 use Rattle.lq_parts.proofs.StepLemmas as lemma

@@ -1,5 +1,5 @@
 use Rattle.std.proofs.Common.{subst}
-use Rattle.lq_model.specs.TableNames.{foreign_names}
+use Rattle.lq_model.specs.Catalogue.{foreign_names}
 use Rattle.lq_parts.specs.Taken.{IsTrueOf}
 use Rattle.lq_parts.proofs.TakenLemmas.{just_more}
 use Rattle.lq_parts.proofs.taken.learn_foreign.Goals as goal

@@ -1,6 +1,6 @@
 use Rattle.std.proofs.Common.{sym, ◌∙◌}
 use Rattle.lq_model.specs.NameSpaces.{names_inside}
-use Rattle.lq_model.specs.TableNames.{inner_names}
+use Rattle.lq_model.specs.Catalogue.{inner_names}
 use Rattle.lq_parts.specs.Taken.{names_in}
 use Rattle.lq_parts.proofs.TakenLemmas.{among_placed, inner_among, set_more}
 use Rattle.lq_parts.proofs.taken.relearn_inner.Goals as goal

@@ -1,6 +1,6 @@
 use Rattle.std.proofs.Common.{drop, map, ◌≡◌, ◌++◌}
-use Rattle.lq_turns.specs.Pending.{pending}
-use Rattle.lq_plan.specs.Head.{headed}
+use Rattle.lq_turns.specs.Printed.{pending}
+use Rattle.lq_plan.specs.Told.{headed}
 use Rattle.lq_plan.proofs.turns.pending.Given as goal
 
 abbrev pub invariant-loop-head : goal.invariant-loop-head

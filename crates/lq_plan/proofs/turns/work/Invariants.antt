@@ -1,6 +1,5 @@
 use Rattle.std.proofs.Common.{drop, map, ◌≡◌, ◌++◌}
-use Rattle.lq_plan.specs.Head.{headed}
-use Rattle.lq_plan.specs.Work.{work, work_from}
+use Rattle.lq_plan.specs.Told.{headed, work, work_from}
 use Rattle.lq_plan.proofs.turns.work.Given as goal
 
 abbrev pub invariant-loop-head : goal.invariant-loop-head

@@ -1,6 +1,6 @@
 use Rattle.std.proofs.Common.{subst, ◌∙◌}
 use Rattle.lq_players.proofs.Refused.{at_once_prints}
-use Rattle.lq_run.specs.Holds.{IsHeld}
+use Rattle.lq_run.specs.Stands.{IsHeld}
 use Rattle.lq_players.proofs.any_command.at_once.Goals as goal
 
 pub returns : goal.returns

@@ -1,6 +1,6 @@
 use Rattle.std.proofs.Common.{subst, ◌∙◌}
 use Rattle.lq_players.specs.Updating.{IsUpdateFor}
-use Rattle.lq_run.specs.Holds.{IsHeld}
+use Rattle.lq_run.specs.Stands.{IsHeld}
 use Rattle.lq_players.proofs.any_command.update.Goals as goal
 
 pub new-requires-clause-reads : goal.new-requires-clause-reads

@@ -1,5 +1,5 @@
 use Rattle.lq_players.proofs.Ended.{answers_so, halt_ends, refusal_ends}
-use Rattle.lq_players.specs.AtEnd.{end_answer, halt_answer, refusal_answer}
+use Rattle.lq_players.specs.Updating.{end_answer, halt_answer, refusal_answer}
 use Rattle.lq_players.proofs.at_end.answer_at_end.Goals as goal
 
 pub returns-in-Some-clause-ends : goal.returns-in-Some-clause-ends

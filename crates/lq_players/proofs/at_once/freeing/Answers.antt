@@ -1,5 +1,5 @@
 use Rattle.std.proofs.Common.{ap, ◌∙◌}
-use Rattle.lq_playing.specs.Came.{nothing}
+use Rattle.lq_playing.specs.Answers.{nothing}
 use Rattle.lq_playing.specs.declared.came.Report.{Report}
 use Rattle.lq_players.proofs.at_once.freeing.Goals as goal
 

@@ -1,5 +1,5 @@
 use Rattle.lq_players.proofs.Drilled.{all_new, all_ready, begins_with, none_is_early}
-use Rattle.lq_players.specs.Drilling.{works}
+use Rattle.lq_players.specs.AnyCommand.{works}
 use Rattle.lq_players.proofs.drilling.drill_commands.Goals as goal
 
 pub drill-requires-clause-ready : goal.drill-requires-clause-ready

@@ -4,7 +4,7 @@ use Rattle.lq_back.specs.Reversal.{IsReversed}
 use Rattle.lq_back.specs.declared.reverse_fault.ReverseFault.TheVariants.{Not}
 use Rattle.lq_players.specs.Tasks.{if_not}
 use Rattle.lq_seen.specs.View.{any_meaning, views}
-use Rattle.lq_turns.specs.Rollback.{not_reversible}
+use Rattle.lq_turns.specs.Script.{not_reversible}
 use Rattle.lq_players.proofs.rolling_back.ways_of.Goals as goal
 
 pub returns-in-Ok-clause-passes : goal.returns-in-Ok-clause-passes

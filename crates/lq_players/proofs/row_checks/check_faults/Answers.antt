@@ -1,6 +1,6 @@
 use Rattle.std.proofs.Common.{subst}
 use Rattle.std.specs.Prelude.{List}
-use Rattle.lq_players.specs.RowChecks.{Passes}
+use Rattle.lq_players.specs.RollingBack.{Passes}
 use Rattle.lq_players.specs.Tasks.{if_some}
 use Rattle.lq_turns.specs.declared.fault.Fault.{Fault}
 use Rattle.lq_players.proofs.row_checks.check_faults.Goals as goal

@@ -1,7 +1,7 @@
 use Rattle.std.proofs.Common.{length}
 use Rattle.std.specs.Prelude.{true, ◌≡◌}
 use Rattle.lq_players.proofs.RowsApart.{Passed}
-use Rattle.lq_players.specs.RowOrder.{stand_behind}
+use Rattle.lq_players.specs.AnyCommand.{stand_behind}
 use Rattle.lq_players.proofs.row_order.are_apart.Given as goal
 
 abbrev pub invariant-loop-row : goal.invariant-loop-row

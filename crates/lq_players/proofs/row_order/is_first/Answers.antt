@@ -1,5 +1,5 @@
 use Rattle.std.proofs.Common.{ap}
-use Rattle.lq_players.specs.RowOrder.{has_order}
+use Rattle.lq_players.specs.AnyCommand.{has_order}
 use Rattle.lq_plan.proofs.Indexed.{found_none, found_row}
 use Rattle.lq_track.specs.Log.{identity_of}
 use Rattle.lq_players.proofs.row_order.is_first.Goals as goal

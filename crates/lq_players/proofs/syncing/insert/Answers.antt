@@ -3,7 +3,7 @@ use Rattle.std.specs.Prelude.{None}
 use Rattle.lq_base.specs.declared.dialect.Dialect.TheVariants.{Postgresql}
 use Rattle.lq_players.proofs.OneStepChecked.{true_not}
 use Rattle.lq_players.specs.Syncing.{refused_at}
-use Rattle.lq_turns.specs.Synced.{insert_stop, marked_by}
+use Rattle.lq_turns.specs.Laws.{insert_stop, marked_by}
 use Rattle.lq_players.proofs.syncing.insert.Goals as goal
 
 pub returns-then-is_empty : goal.returns-then-is_empty

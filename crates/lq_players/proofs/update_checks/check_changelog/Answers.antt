@@ -2,8 +2,8 @@ use Rattle.std.proofs.Common.{rules, subst, sym}
 use Rattle.std.specs.Prelude.{Err, IfOk, [], ◌≡◌}
 use Rattle.lq_players.proofs.RowsRead.{err_so}
 use Rattle.lq_players.proofs.UpdateTurns.{faultless, ok_always, refused_first, refused_then}
-use Rattle.lq_players.specs.RowChecks.{IsRefusal, Refuses}
-use Rattle.lq_players.specs.UpdateChecks.{IsOwn, log_of, update_refusal}
+use Rattle.lq_players.specs.RollingBack.{IsRefusal, Refuses}
+use Rattle.lq_players.specs.Updating.{IsOwn, log_of, update_refusal}
 use Rattle.lq_turns.specs.Faults.{faults}
 use Rattle.lq_players.proofs.update_checks.check_changelog.Goals as goal
 

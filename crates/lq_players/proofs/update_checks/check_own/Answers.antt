@@ -1,7 +1,7 @@
 use Rattle.std.proofs.Common.{ap, subst, ◌∙◌}
 use Rattle.std.specs.Prelude.{IfErr}
 use Rattle.lq_players.proofs.Results.{ok_map}
-use Rattle.lq_players.specs.RowChecks.{Refuses}
+use Rattle.lq_players.specs.RollingBack.{Refuses}
 use Rattle.lq_players.specs.Tasks.{if_halts}
 use Rattle.lq_turns.specs.Settle.{is_halt}
 use Rattle.lq_players.proofs.update_checks.check_own.Goals as goal

@@ -1,5 +1,5 @@
 use Rattle.std.proofs.Common.{ap, ◌∙◌}
-use Rattle.lq_players.specs.UpdateChecks.{warning}
+use Rattle.lq_players.specs.Updating.{warning}
 use Rattle.lq_players.specs.declared.update_checks.Planned.TheVariants.{Idle}
 use Rattle.lq_playing.specs.declared.came.Report.{Report}
 use Rattle.lq_players.proofs.update_checks.idle.Goals as goal

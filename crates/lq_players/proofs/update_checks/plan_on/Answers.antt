@@ -3,9 +3,9 @@ use Rattle.std.specs.Prelude.{Err, IfOk, ◌≡◌}
 use Rattle.lq_players.proofs.BackPlanned.{lack_only}
 use Rattle.lq_players.proofs.RowsRead.{err_so}
 use Rattle.lq_players.proofs.UpdateTurns.{plans_here}
-use Rattle.lq_players.specs.RowChecks.{IsRefusal}
-use Rattle.lq_players.specs.UpdateChecks.{IsPlanFor, Plans}
-use Rattle.lq_kinds.specs.Dialects.{AreFor}
+use Rattle.lq_players.specs.RollingBack.{IsRefusal}
+use Rattle.lq_players.specs.Updating.{IsPlanFor, Plans}
+use Rattle.lq_kinds.specs.AnyChange.{AreFor}
 use Rattle.lq_players.proofs.update_checks.plan_on.Goals as goal
 
 pub check_changelog-requires : goal.check_changelog-requires

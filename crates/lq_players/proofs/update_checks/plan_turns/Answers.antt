@@ -1,7 +1,7 @@
 use Rattle.std.proofs.Common.{sym, ◌∙◌}
 use Rattle.lq_players.proofs.UpdateTurns.{idle_read, no_work, plans_idle, plans_turns, some_work}
 use Rattle.lq_players.specs.Reports.{own_warned}
-use Rattle.lq_players.specs.UpdateChecks.{log_of, warning}
+use Rattle.lq_players.specs.Updating.{log_of, warning}
 use Rattle.lq_model.proofs.Lists.{true_false}
 use Rattle.lq_players.proofs.update_checks.plan_turns.Goals as goal
 

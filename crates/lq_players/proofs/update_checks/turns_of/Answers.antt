@@ -1,6 +1,6 @@
 use Rattle.std.proofs.Common.{ap, subst, sym, ◌∙◌}
 use Rattle.lq_players.proofs.UpdateTurns.{warned_turns}
-use Rattle.lq_players.specs.UpdateChecks.{HasTurns, with_warned}
+use Rattle.lq_players.specs.Updating.{HasTurns, with_warned}
 use Rattle.lq_sets.specs.SetTurns.{IsReadFor}
 use Rattle.lq_sets.specs.declared.set_turns.SetTurns.{SetTurns}
 use Rattle.lq_players.proofs.update_checks.turns_of.Goals as goal

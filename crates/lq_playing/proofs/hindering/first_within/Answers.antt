@@ -1,7 +1,7 @@
 use Rattle.std.proofs.Common.{ap, rules, sym, ◌∙◌}
 use Rattle.std.specs.Prelude.{[], ◌++◌, ◌∷◌, ◌≡◌}
 use Rattle.lq_hand.proofs.InHand.{last_first}
-use Rattle.lq_playing.specs.Hindered.{first_within}
+use Rattle.lq_playing.specs.Under.{first_within}
 use Rattle.lq_playing.proofs.hindering.first_within.Goals as goal
 
 pub returns-in-Some : goal.returns-in-Some

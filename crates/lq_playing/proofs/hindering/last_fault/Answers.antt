@@ -1,6 +1,6 @@
 use Rattle.std.proofs.Common.{inl, subst, sym}
 use Rattle.std.specs.Prelude.{Some}
-use Rattle.lq_playing.specs.Hindered.{Stays, asks_open}
+use Rattle.lq_playing.specs.Under.{Stays, asks_open}
 use Rattle.lq_playing.proofs.hindering.last_fault.Goals as goal
 
 pub returns-in-None : goal.returns-in-None

@@ -1,5 +1,5 @@
 use Rattle.lq_run.proofs.Losing.{told_map}
-use Rattle.lq_playing.specs.Hindered.{TellsLost}
+use Rattle.lq_playing.specs.Under.{TellsLost}
 use Rattle.lq_playing.proofs.hindering.lost.Goals as goal
 
 pub returns-clause-tells : goal.returns-clause-tells

@@ -1,5 +1,5 @@
 use Rattle.lq_run.proofs.Losing.{told_map}
-use Rattle.lq_run.specs.Holds.{Holds}
+use Rattle.lq_run.specs.Stands.{Holds}
 use Rattle.lq_playing.proofs.hindering.stands.Goals as goal
 
 pub returns : goal.returns

@@ -1,6 +1,6 @@
 use Rattle.std.proofs.Common.{drop, not, ◌||◌, ◌≡◌}
 use Rattle.std.specs.List.{list_all}
-use Rattle.lq_model.specs.Names.{is_in}
+use Rattle.lq_model.specs.Catalogue.{is_in}
 use Rattle.lq_primary_keys.proofs.add_primary_key.are_firm.Given as goal
 
 abbrev pub invariant-loop-column : goal.invariant-loop-column

@@ -1,5 +1,5 @@
 use Rattle.std.proofs.Common.{drop, ◌≡◌}
-use Rattle.lq_model.specs.Names.{is_in}
+use Rattle.lq_model.specs.Catalogue.{is_in}
 use Rattle.lq_primary_keys.proofs.add_primary_key.is_among.Given as goal
 
 abbrev pub invariant-loop-one : goal.invariant-loop-one

@@ -1,7 +1,7 @@
 use Rattle.std.proofs.Common.{◌≡◌, rules, None, Some, sym, ap, ◌∙◌, string_bytes, option_and_then}
 use Rattle.std.proofs.lemmas.Map.Text.{hash_map_updates_text}
 use Rattle.indexmap.specs.IndexMap.{get_by_text}
-use Rattle.lq_props.specs.Values.{value_in}
+use Rattle.lq_props.specs.Replaced.{value_in}
 use Rattle.lq_props.proofs.Defined.{defined_file, same_file, empty_has_none, on_ok, on_err}
 use Rattle.lq_props.proofs.values.define_in_file.Goals as goal
 

@@ -1,5 +1,5 @@
 use Rattle.std.proofs.Common.{drop, ◌≡◌}
-use Rattle.lq_model.specs.Row as row
+use Rattle.lq_model.specs.Catalogue as row
 use Rattle.lq_query.proofs.cell.by_name.Given as goal
 
 abbrev pub invariant-loop-column : goal.invariant-loop-column

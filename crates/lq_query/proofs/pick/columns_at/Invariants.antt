@@ -1,5 +1,5 @@
 use Rattle.std.proofs.Common.{◌≡◌, take}
-use Rattle.lq_model.specs.Query.{columns_at}
+use Rattle.lq_model.specs.Views.{columns_at}
 use Rattle.lq_query.proofs.pick.columns_at.Given as goal
 
 abbrev pub invariant-loop-name : goal.invariant-loop-name

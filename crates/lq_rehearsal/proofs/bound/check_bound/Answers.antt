@@ -4,7 +4,7 @@ use Rattle.std.specs.Prelude.{Err, List, None, Some, ◌≡◌}
 use Rattle.lq_bound.specs.Bound.{first_bound}
 use Rattle.lq_kinds.specs.declared.change_set.ChangeSet.{ChangeSet}
 use Rattle.lq_kinds.specs.declared.change_set.Changelog.{Changelog}
-use Rattle.lq_plan.specs.Work.{work}
+use Rattle.lq_plan.specs.Told.{work}
 use Rattle.lq_seen.specs.View.{views}
 use Rattle.lq_tell.specs.declared.status.Status.TheVariants as status
 use Rattle.lq_commands.specs.Scripts.{sets_in}

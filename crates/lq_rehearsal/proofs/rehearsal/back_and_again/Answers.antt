@@ -6,7 +6,7 @@ use Rattle.lq_tell.specs.declared.status.Status.TheVariants as status
 use Rattle.lq_rehearsal.proofs.RehearsalJobs.{failed_back, joined_back, ready_back, stopped_back}
 use Rattle.lq_rehearsal.proofs.Rehearsed.{lacking_run}
 use Rattle.lq_commands.specs.Rehearsal.{after_update, updates_again}
-use Rattle.lq_rehearsal.specs.Runs.{DidRun}
+use Rattle.lq_rehearsal.specs.Returns.{DidRun}
 use Rattle.lq_commands.specs.Works.{IsReady}
 use Rattle.lq_commands.specs.declared.given.Given.{Given}
 use Rattle.lq_rehearsal.proofs.rehearsal.back_and_again.Goals as goal

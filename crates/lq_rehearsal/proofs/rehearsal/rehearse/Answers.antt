@@ -8,7 +8,7 @@ use Rattle.lq_commands.proofs.Jobbed.{memory_did}
 use Rattle.lq_rehearsal.proofs.RehearsalJobs.{first_failed, joined_job, ready_then, stopped_job}
 use Rattle.lq_commands.specs.Jobs.{DidJob}
 use Rattle.lq_commands.specs.Rehearsal.{after_update}
-use Rattle.lq_rehearsal.specs.Runs.{DidRun}
+use Rattle.lq_rehearsal.specs.Returns.{DidRun}
 use Rattle.lq_commands.specs.Works.{IsReady}
 use Rattle.lq_commands.specs.declared.given.Given.{Given}
 use Rattle.lq_rehearsal.proofs.rehearsal.rehearse.Goals as goal

@@ -1,5 +1,5 @@
 use Rattle.std.proofs.Common.{arith, length, ◌<◌, ◌≡◌}
-use Rattle.lq_model.specs.Rename.{retargeted}
+use Rattle.lq_model.specs.Tables.{retargeted}
 use Rattle.lq_rows.proofs.Continued.{goes_further}
 use Rattle.lq_renames.proofs.Places.{partly_all, partly_more, partly_ordered, partly_within}
 use Rattle.lq_renames.proofs.aims.retarget_all.Goals as goal

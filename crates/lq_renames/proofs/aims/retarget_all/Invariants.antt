@@ -1,4 +1,4 @@
-use Rattle.lq_model.specs.Rename.{retargeted}
+use Rattle.lq_model.specs.Tables.{retargeted}
 use Rattle.lq_renames.proofs.Places.{IsPartly}
 use Rattle.lq_renames.proofs.aims.retarget_all.Given as goal
 

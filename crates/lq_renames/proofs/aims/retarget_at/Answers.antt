@@ -1,8 +1,7 @@
 use Rattle.std.proofs.Common.{ap, false, is_some, rules, ◌∙◌, ◌≡◌}
 use Rattle.lq_chain.specs.History.{History}
 use Rattle.lq_model.specs.Catalogue.{Catalogue}
-use Rattle.lq_model.specs.Needs.{targets_table}
-use Rattle.lq_model.specs.Rename.{retargeted}
+use Rattle.lq_model.specs.Tables.{targets_table, retargeted}
 use Rattle.lq_renames.proofs.Places.{changed_at, found_at, kept_at}
 use Rattle.lq_renames.proofs.Renamed.{untargeted}
 use Rattle.lq_renames.proofs.aims.retarget_at.Goals as goal

@@ -1,5 +1,5 @@
 use Rattle.std.proofs.Common.{Ok, ap, sym, ◌∙◌}
-use Rattle.lq_model.specs.RenameColumn as spec
+use Rattle.lq_model.specs.Tables as spec
 use Rattle.lq_decide.specs.Faults.{no_faults}
 use Rattle.lq_decide.proofs.RenamedColumn.{rename_column_judged}
 use Rattle.lq_arm.proofs.Arms as arm

@@ -1,5 +1,5 @@
 use Rattle.std.proofs.Common.{map, take, ◌≡◌}
-use Rattle.lq_model.specs.RenameColumn.{name_at}
+use Rattle.lq_model.specs.Tables.{name_at}
 use Rattle.lq_renames.proofs.lists.names_at.Given as goal
 
 abbrev pub invariant-loop-name : goal.invariant-loop-name

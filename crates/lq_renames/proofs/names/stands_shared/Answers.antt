@@ -2,7 +2,7 @@ use Rattle.std.proofs.Common.{ap, false, sym, ◌||◌, ◌∙◌, ◌≡◌}
 use Rattle.std.specs.List.{list_any}
 use Rattle.lq_arm.proofs.NameLemmas.{shared_is}
 use Rattle.lq_model.specs.NameSpaces.{names_inside, object_names}
-use Rattle.lq_model.specs.Names.{is_in}
+use Rattle.lq_model.specs.Catalogue.{is_in}
 use Rattle.lq_renames.proofs.names.stands_shared.Goals as goal
 
 pub returns-else-has_object : goal.returns-else-has_object

@@ -2,8 +2,7 @@ use Rattle.std.proofs.Common.{ap, false, is_some, rules, ◌∙◌, ◌≡◌}
 use Rattle.lq_base.specs.Name.{is_named}
 use Rattle.lq_model.specs.Catalogue.{Catalogue}
 use Rattle.lq_chain.specs.History.{History}
-use Rattle.lq_model.specs.Needs.{targets_table}
-use Rattle.lq_model.specs.RenameColumn.{with_column_renamed}
+use Rattle.lq_model.specs.Tables.{targets_table, with_column_renamed}
 use Rattle.lq_renames.proofs.Alone.{left_alone}
 use Rattle.lq_renames.proofs.Places.{changed_at, found_at, kept_at}
 use Rattle.lq_renames.proofs.shapes.rename_at.Goals as goal

@@ -1,6 +1,6 @@
 use Rattle.std.proofs.Common.{arith, length, ◌<◌, ◌≡◌}
 use Rattle.lq_base.specs.Name.{is_named}
-use Rattle.lq_model.specs.RenameColumn.{with_column_renamed}
+use Rattle.lq_model.specs.Tables.{with_column_renamed}
 use Rattle.lq_rows.proofs.Continued.{goes_further}
 use Rattle.lq_renames.proofs.Places.{partly_all, partly_more, partly_ordered, partly_within}
 use Rattle.lq_renames.proofs.shapes.rename_in_all.Goals as goal

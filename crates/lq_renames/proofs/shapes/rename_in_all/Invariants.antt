@@ -1,5 +1,5 @@
 use Rattle.lq_base.specs.Name.{is_named}
-use Rattle.lq_model.specs.RenameColumn.{with_column_renamed}
+use Rattle.lq_model.specs.Tables.{with_column_renamed}
 use Rattle.lq_renames.proofs.Places.{IsPartly}
 use Rattle.lq_renames.proofs.shapes.rename_in_all.Given as goal
 

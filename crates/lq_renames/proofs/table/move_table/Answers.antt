@@ -1,6 +1,6 @@
 use Rattle.std.proofs.Common.{refl, subst, sym}
-use Rattle.lq_parts.specs.Kept.{with_renamed}
-use Rattle.lq_rows.specs.Answers.{Continues}
+use Rattle.lq_parts.specs.Taken.{with_renamed}
+use Rattle.lq_rows.specs.Stored.{Continues}
 use Rattle.lq_rows.proofs.Continued.{goes_further, goes_on}
 use Rattle.lq_renames.proofs.Renamed.{still_ordered}
 use Rattle.lq_renames.proofs.table.move_table.Goals as goal

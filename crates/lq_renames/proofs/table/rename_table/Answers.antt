@@ -1,5 +1,5 @@
 use Rattle.std.proofs.Common.{Ok, ap, sym, ◌∙◌}
-use Rattle.lq_model.specs.Rename as spec
+use Rattle.lq_model.specs.Tables as spec
 use Rattle.lq_model.specs.NameSpaces.{is_taken}
 use Rattle.lq_model.proofs.Absent.{free_of}
 use Rattle.lq_model.proofs.Lists.{or_left}

@@ -1,6 +1,6 @@
 use Rattle.std.proofs.Common.{◌≡◌, ◌++◌, ◌∙◌, ℕ, List, codes, append_assoc}
-use Rattle.lq_base.specs.Dialect.{dialect_text}
-use Rattle.lq_report.specs.Log.{dialect_fault_line}
+use Rattle.lq_base.specs.Name.{dialect_text}
+use Rattle.lq_report.specs.Output.{dialect_fault_line}
 use Rattle.lq_report.proofs.Appended.{lined, then}
 use Rattle.lq_report.proofs.changelog_log.append_dialect_fault.Goals as goal
 

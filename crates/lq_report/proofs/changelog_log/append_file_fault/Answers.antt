@@ -1,6 +1,6 @@
 use Rattle.std.proofs.Common.{◌++◌, codes, append_assoc}
 use Rattle.std.proofs.lemmas.List.{append-nil}
-use Rattle.lq_report.specs.Log.{file_fault_line}
+use Rattle.lq_report.specs.Output.{file_fault_line}
 use Rattle.lq_report.proofs.Appended.{lined}
 use Rattle.lq_report.proofs.changelog_log.append_file_fault.Goals as goal
 

@@ -1,6 +1,6 @@
 use Rattle.std.proofs.Common.{◌++◌, codes, append_assoc}
 use Rattle.std.proofs.lemmas.List.{append-nil}
-use Rattle.lq_report.specs.Log.{key_fault_line}
+use Rattle.lq_report.specs.Output.{key_fault_line}
 use Rattle.lq_report.proofs.Appended.{lined}
 use Rattle.lq_report.proofs.changelog_log.append_key_fault.Goals as goal
 

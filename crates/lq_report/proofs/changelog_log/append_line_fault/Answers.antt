@@ -1,7 +1,7 @@
 use Rattle.std.proofs.Common.{◌++◌, ◌∙◌, codes, append_assoc}
 use Rattle.std.proofs.lemmas.List.{append-nil}
 use Rattle.std.specs.Fmt.{decimal}
-use Rattle.lq_report.specs.Log.{line_fault_line}
+use Rattle.lq_report.specs.Output.{line_fault_line}
 use Rattle.lq_report.proofs.Appended.{lined, then}
 use Rattle.lq_report.proofs.changelog_log.append_line_fault.Goals as goal
 

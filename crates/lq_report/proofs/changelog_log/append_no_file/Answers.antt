@@ -1,6 +1,6 @@
 use Rattle.std.proofs.Common.{◌++◌, codes}
 use Rattle.std.proofs.lemmas.List.{append-nil}
-use Rattle.lq_report.specs.Log.{no_file_line}
+use Rattle.lq_report.specs.Output.{no_file_line}
 use Rattle.lq_report.proofs.Appended.{lined}
 use Rattle.lq_report.proofs.changelog_log.append_no_file.Goals as goal
 

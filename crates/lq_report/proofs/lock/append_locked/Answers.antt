@@ -1,5 +1,5 @@
 use Rattle.std.proofs.Common.{append_assoc}
-use Rattle.lq_report.specs.Log.{locked_lines}
+use Rattle.lq_report.specs.Output.{locked_lines}
 use Rattle.lq_report.proofs.Appended.{on_ok, two}
 use Rattle.lq_report.proofs.lock.append_locked.Goals as goal
 

@@ -1,5 +1,5 @@
 use Rattle.std.proofs.Common.{◌++◌, ◌∙◌, ℕ, List, ap, codes}
-use Rattle.lq_report.specs.Log.{log_line}
+use Rattle.lq_report.specs.Output.{log_line}
 use Rattle.lq_report.proofs.Appended.{on_ok, one}
 use Rattle.lq_report.proofs.log_line.append_line.Goals as goal
 

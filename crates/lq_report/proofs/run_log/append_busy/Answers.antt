@@ -1,5 +1,5 @@
 use Rattle.std.proofs.Common.{sym}
-use Rattle.lq_report.specs.Log.{busy_line}
+use Rattle.lq_report.specs.Output.{busy_line}
 use Rattle.lq_report.proofs.Appended.{on_ok}
 use Rattle.lq_report.proofs.run_log.append_busy.Goals as goal
 

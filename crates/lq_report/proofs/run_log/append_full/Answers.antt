@@ -1,5 +1,5 @@
 use Rattle.std.proofs.Common.{append_assoc}
-use Rattle.lq_report.specs.Log.{full_line}
+use Rattle.lq_report.specs.Output.{full_line}
 use Rattle.lq_report.proofs.Appended.{on_ok, two}
 use Rattle.lq_report.proofs.run_log.append_full.Goals as goal
 

@@ -1,6 +1,6 @@
 use Rattle.std.proofs.Common.{◌++◌, codes}
 use Rattle.std.proofs.lemmas.List.{append-nil}
-use Rattle.lq_report.specs.Log.{no_tag_line}
+use Rattle.lq_report.specs.Output.{no_tag_line}
 use Rattle.lq_report.proofs.Appended.{lined}
 use Rattle.lq_report.proofs.run_log.append_no_tag.Goals as goal
 

@@ -1,5 +1,5 @@
 use Rattle.std.proofs.Common.{◌++◌, ◌∙◌, codes}
-use Rattle.lq_report.specs.Log.{not_reversible_line, undoable_text}
+use Rattle.lq_report.specs.Output.{not_reversible_line, undoable_text}
 use Rattle.lq_report.proofs.Appended.{lined, then}
 use Rattle.lq_report.proofs.run_log.append_not_reversible.Goals as goal
 

@@ -1,6 +1,6 @@
 use Rattle.std.proofs.Common.{◌++◌, codes}
 use Rattle.std.proofs.lemmas.List.{append-nil}
-use Rattle.lq_report.specs.Log.{not_writable_line}
+use Rattle.lq_report.specs.Output.{not_writable_line}
 use Rattle.lq_report.proofs.Appended.{lined}
 use Rattle.lq_report.proofs.run_log.append_not_writable.Goals as goal
 

@@ -1,8 +1,7 @@
 use Rattle.std.proofs.Common.{◌≡◌, ◌++◌, ◌∙◌, ℕ, List, codes, append_assoc}
 use Rattle.std.specs.Fmt.{decimal}
-use Rattle.lq_base.specs.Reason.{reason_text}
-use Rattle.lq_base.specs.Tracking.{identity_text}
-use Rattle.lq_report.specs.Log.{refused_line}
+use Rattle.lq_base.specs.Name.{reason_text, identity_text}
+use Rattle.lq_report.specs.Output.{refused_line}
 use Rattle.lq_report.proofs.Appended.{lined, then}
 use Rattle.lq_report.proofs.run_log.append_refused.Goals as goal
 

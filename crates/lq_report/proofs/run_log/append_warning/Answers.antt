@@ -1,7 +1,7 @@
 use Rattle.std.proofs.Common.{◌++◌, ◌∙◌, codes, append_assoc}
 use Rattle.std.proofs.lemmas.List.{append-nil}
 use Rattle.lq_words.specs.Words.{place_text, why_text}
-use Rattle.lq_report.specs.Log.{warning_line}
+use Rattle.lq_report.specs.Output.{warning_line}
 use Rattle.lq_report.proofs.Appended.{lined, then}
 use Rattle.lq_report.proofs.run_log.append_warning.Goals as goal
 

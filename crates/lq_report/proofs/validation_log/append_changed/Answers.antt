@@ -1,7 +1,7 @@
 use Rattle.std.proofs.Common.{◌≡◌, ◌++◌, ◌∙◌, ℕ, List, [], codes, append_assoc}
 use Rattle.std.proofs.lemmas.List.{append-nil}
-use Rattle.lq_base.specs.Tracking.{identity_text}
-use Rattle.lq_report.specs.Log.{changed_line}
+use Rattle.lq_base.specs.Name.{identity_text}
+use Rattle.lq_report.specs.Output.{changed_line}
 use Rattle.lq_report.proofs.Appended.{lined, then}
 use Rattle.lq_report.proofs.validation_log.append_changed.Goals as goal
 

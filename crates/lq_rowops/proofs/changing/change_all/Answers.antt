@@ -2,7 +2,7 @@ use Rattle.std.proofs.Common.{List, Option, ap, ◌∙◌}
 use Rattle.std.specs.List.{list_any}
 use Rattle.lq_base.specs.declared.value.Value.{Value}
 use Rattle.lq_model.specs.Catalogue.{the_table}
-use Rattle.lq_rowops.specs.Edits.{strays}
+use Rattle.lq_rowops.specs.InsertTests.{strays}
 use Rattle.lq_rowops.proofs.ChangeLemmas.{all_changed}
 use Rattle.lq_rowops.proofs.changing.change_all.Goals as goal
 

@@ -1,10 +1,9 @@
 use Rattle.std.proofs.Common.{List, Option, ap, ◌∙◌}
 use Rattle.std.specs.List.{list_any}
 use Rattle.lq_base.specs.declared.value.Value.{Value}
-use Rattle.lq_model.specs.Catalogue.{the_table}
-use Rattle.lq_model.specs.Row.{has_bad_null}
+use Rattle.lq_model.specs.Catalogue.{the_table, has_bad_null}
 use Rattle.lq_model.specs.declared.column.Column.{Column}
-use Rattle.lq_rowops.specs.Edits.{is_some_such, strays}
+use Rattle.lq_rowops.specs.InsertTests.{is_some_such, strays}
 use Rattle.lq_rowops.proofs.ChangeLemmas.{one_changed, one_counted, one_strays, one_such}
 use Rattle.lq_rowops.proofs.changing.change_one.Goals as goal
 

@@ -1,9 +1,8 @@
 use Rattle.std.proofs.Common.{Some, ap, is_some, length, map, rules, unwrap_or, ◌≡◌, ◌∙◌}
 use Rattle.std.specs.List.{filter, list_any}
-use Rattle.lq_model.specs.Catalogue.{no_table, table_of, the_table}
-use Rattle.lq_model.specs.Row.{has_bad_null}
+use Rattle.lq_model.specs.Catalogue.{no_table, table_of, the_table, has_bad_null}
 use Rattle.lq_rowops.proofs.UpdateLemmas.{any_edits, count_edits}
-use Rattle.lq_rowops.specs.Edits.{edit, is_some_such}
+use Rattle.lq_rowops.specs.InsertTests.{edit, is_some_such}
 use Rattle.lq_rowops.proofs.changing.new_rows.Goals as goal
 
 pub returns : goal.returns

@@ -1,5 +1,5 @@
 use Rattle.std.proofs.Common.{map, ◌++◌, ◌≡◌}
-use Rattle.lq_rowops.specs.Edits.{edit}
+use Rattle.lq_rowops.specs.InsertTests.{edit}
 use Rattle.lq_rowops.proofs.edit.edits.Given as goal
 
 abbrev pub invariant-loop-row : goal.invariant-loop-row

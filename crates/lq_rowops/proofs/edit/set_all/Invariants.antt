@@ -1,6 +1,6 @@
 use Rattle.std.proofs.Common.{length, map, ◌≡◌}
-use Rattle.lq_model.specs.Update.{set_all}
-use Rattle.lq_rowops.specs.Edits.{value_set}
+use Rattle.lq_model.specs.Rows.{set_all}
+use Rattle.lq_rowops.specs.InsertTests.{value_set}
 use Rattle.lq_rowops.proofs.edit.set_all.Given as goal
 
 abbrev pub invariant-loop-left : goal.invariant-loop-left

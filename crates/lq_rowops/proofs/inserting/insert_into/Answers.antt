@@ -1,6 +1,6 @@
 use Rattle.std.proofs.Common.{[], false, rules, subst, sym, true, ◌∷◌, ◌≡◌}
-use Rattle.lq_model.specs.Reserved.{is_reserved}
-use Rattle.lq_rows.specs.Answers.{Answers}
+use Rattle.lq_model.specs.NameSpaces.{is_reserved}
+use Rattle.lq_rows.specs.Stored.{Answers}
 use Rattle.lq_rowops.proofs.InsertDecides.{insert_decides, insert_reserved}
 use Rattle.lq_rowops.proofs.inserting.insert_into.Goals as goal
 

@@ -1,7 +1,7 @@
 use Rattle.std.proofs.Common.{drop, ◌≡◌}
 use Rattle.std.specs.List.{list_any}
 use Rattle.lq_model.specs.Catalogue.{the_table}
-use Rattle.lq_decide.specs.InsertFaults.{lacks_parent_of}
+use Rattle.lq_decide.specs.Faults.{lacks_parent_of}
 use Rattle.lq_rowops.proofs.inserting.lacks_one.Given as goal
 
 abbrev pub invariant-loop-key : goal.invariant-loop-key

@@ -1,8 +1,7 @@
 use Rattle.std.proofs.Common.{false, rules, ◌&&◌, ◌≡◌}
 use Rattle.std.specs.List.{list_any}
 use Rattle.lq_base.specs.Name.{is_named}
-use Rattle.lq_model.specs.Catalogue.{the_table}
-use Rattle.lq_model.specs.Row.{is_null, picked, same_values}
+use Rattle.lq_model.specs.Catalogue.{the_table, is_null, picked, same_values}
 use Rattle.lq_rows.specs.Stored.{has_values_in}
 use Rattle.lq_rowops.proofs.InsertDecides.{lacks_by}
 use Rattle.lq_rowops.proofs.inserting.lacks_parent.Goals as goal

@@ -1,6 +1,6 @@
 use Rattle.std.proofs.Common.{rules, subst, ◌≡◌}
-use Rattle.lq_model.specs.Insert.{next_of, stated}
-use Rattle.lq_rows.specs.Answers.{Means}
+use Rattle.lq_model.specs.Rows.{next_of, stated}
+use Rattle.lq_rows.specs.Stored.{Means}
 use Rattle.lq_rowops.specs.InsertTests.{row_meant}
 use Rattle.lq_rowops.proofs.InsertSteps as step
 use Rattle.lq_rowops.proofs.inserting.plan.Goals as goal

@@ -1,13 +1,11 @@
 use Rattle.std.proofs.Common.{Ok, Some, ap, false, is_none, rules, subst, sym, true, unwrap_or, ◌∙◌, ◌≡◌}
 use Rattle.std.proofs.Common.{length, nat_le, not, suc}
 use Rattle.lq_model.specs.Catalogue.{no_table, table_of, the_table, with_table}
-use Rattle.lq_model.specs.ResultTests.{most_rows}
-use Rattle.lq_rowops.specs.InsertTests.{new_row}
-use Rattle.lq_decide.specs.InsertFaults.{is_orphan}
-use Rattle.lq_model.specs.Twin.{is_twin}
-use Rattle.lq_rowops.specs.Planned.{Plans, PlansRow}
+use Rattle.lq_model.specs.Plan.{most_rows, is_twin}
+use Rattle.lq_rowops.specs.InsertTests.{new_row, Plans, PlansRow}
+use Rattle.lq_decide.specs.Faults.{is_orphan}
 use Rattle.lq_chain.specs.History.{changed}
-use Rattle.lq_model.specs.Insert.{next_of, stated}
+use Rattle.lq_model.specs.Rows.{next_of, stated}
 use Rattle.lq_rows.specs.Stored.{with_row}
 use Rattle.lq_rowops.proofs.InsertDecides as lemma
 use Rattle.lq_rows.proofs.Continued.{goes_on}

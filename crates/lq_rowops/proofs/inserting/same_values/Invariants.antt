@@ -1,5 +1,5 @@
 use Rattle.std.proofs.Common.{length, ◌≡◌}
-use Rattle.lq_model.specs.Row.{same_values}
+use Rattle.lq_model.specs.Catalogue.{same_values}
 use Rattle.lq_rowops.proofs.inserting.same_values.Given as goal
 
 abbrev pub invariant-loop-left : goal.invariant-loop-left

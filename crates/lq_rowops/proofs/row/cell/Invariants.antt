@@ -1,5 +1,5 @@
 use Rattle.std.proofs.Common.{length, ◌≡◌}
-use Rattle.lq_model.specs.Insert.{cell}
+use Rattle.lq_model.specs.Rows.{cell}
 use Rattle.lq_rowops.proofs.row.cell.Given as goal
 
 abbrev pub invariant-loop-names : goal.invariant-loop-names

@@ -1,5 +1,5 @@
 use Rattle.std.proofs.Common.{length, ◌≡◌}
-use Rattle.lq_model.specs.Row.{has_bad_null}
+use Rattle.lq_model.specs.Catalogue.{has_bad_null}
 use Rattle.lq_rowops.proofs.row.has_bad_null.Given as goal
 
 abbrev pub invariant-loop-left : goal.invariant-loop-left

@@ -1,5 +1,5 @@
 use Rattle.std.proofs.Common.{length, ◌≡◌}
-use Rattle.lq_model.specs.Insert.{next_of}
+use Rattle.lq_model.specs.Rows.{next_of}
 use Rattle.lq_rowops.proofs.row.next_after.Given as goal
 
 abbrev pub invariant-loop-left : goal.invariant-loop-left

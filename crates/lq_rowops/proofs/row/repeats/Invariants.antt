@@ -1,5 +1,5 @@
 use Rattle.std.proofs.Common.{length, ◌≡◌}
-use Rattle.lq_model.specs.Names.{repeats}
+use Rattle.lq_model.specs.Catalogue.{repeats}
 use Rattle.lq_rowops.proofs.row.repeats.Given as goal
 
 abbrev pub invariant-loop-left : goal.invariant-loop-left

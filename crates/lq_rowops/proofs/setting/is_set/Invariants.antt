@@ -1,6 +1,6 @@
 use Rattle.std.proofs.Common.{drop, ◌≡◌}
 use Rattle.lq_decide.specs.Faults.{names_set}
-use Rattle.lq_model.specs.Names.{is_in}
+use Rattle.lq_model.specs.Catalogue.{is_in}
 use Rattle.lq_rowops.proofs.setting.is_set.Given as goal
 
 abbrev pub invariant-loop-set : goal.invariant-loop-set

@@ -2,7 +2,7 @@ use Rattle.std.specs.List.{list_any}
 use Rattle.std.specs.Prelude.{not}
 use Rattle.std.proofs.Common.{drop, map, ◌≡◌}
 use Rattle.lq_decide.specs.Faults.{names_set}
-use Rattle.lq_model.specs.Names.{is_in}
+use Rattle.lq_model.specs.Catalogue.{is_in}
 use Rattle.lq_rowops.proofs.setting.lacks_set.Given as goal
 
 abbrev pub invariant-loop-set : goal.invariant-loop-set

@@ -1,6 +1,6 @@
 use Rattle.std.proofs.Common.{length, ◌≡◌}
 use Rattle.lq_decide.specs.Faults.{names_set}
-use Rattle.lq_model.specs.Names.{repeats}
+use Rattle.lq_model.specs.Catalogue.{repeats}
 use Rattle.lq_rowops.proofs.setting.repeats_set.Given as goal
 
 abbrev pub invariant-loop-left : goal.invariant-loop-left

@@ -1,8 +1,8 @@
 use Rattle.std.proofs.Common.{map, take, ◌≡◌}
 use Rattle.std.specs.List.{list_any}
-use Rattle.lq_model.specs.Literals.{is_wide, is_wrong}
-use Rattle.lq_model.specs.Update.{set_value_of}
-use Rattle.lq_rowops.specs.Edits.{value_set}
+use Rattle.lq_model.specs.Kinds.{is_wide, is_wrong}
+use Rattle.lq_model.specs.Rows.{set_value_of}
+use Rattle.lq_rowops.specs.InsertTests.{value_set}
 use Rattle.lq_rowops.proofs.setting.set_values.Given as goal
 
 abbrev pub invariant-loop-set : goal.invariant-loop-set

@@ -1,7 +1,7 @@
 use Rattle.std.proofs.Common.{drop, ◌≡◌}
 use Rattle.std.specs.List.{list_any}
-use Rattle.lq_model.specs.ResultTests.{lacks_parent}
-use Rattle.lq_rowops.specs.Edits.{is_some_such}
+use Rattle.lq_model.specs.Plan.{lacks_parent}
+use Rattle.lq_rowops.specs.InsertTests.{is_some_such}
 use Rattle.lq_rowops.proofs.stray.stray_in.Given as goal
 
 abbrev pub invariant-loop-new : goal.invariant-loop-new

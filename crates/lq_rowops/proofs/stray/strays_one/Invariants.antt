@@ -1,6 +1,6 @@
 use Rattle.std.proofs.Common.{drop, ◌≡◌}
 use Rattle.std.specs.List.{list_any}
-use Rattle.lq_rowops.specs.Edits.{strays}
+use Rattle.lq_rowops.specs.InsertTests.{strays}
 use Rattle.lq_rowops.proofs.stray.strays_one.Given as goal
 
 abbrev pub invariant-loop-key : goal.invariant-loop-key

@@ -1,6 +1,6 @@
 use Rattle.std.proofs.Common.{drop, map, ◌≡◌}
 use Rattle.std.specs.List.{filter, list_any}
-use Rattle.lq_rowops.specs.Edits.{set_twins}
+use Rattle.lq_rowops.specs.InsertTests.{set_twins}
 use Rattle.lq_rowops.proofs.twins.index_twins.Given as goal
 
 abbrev pub invariant-loop-index : goal.invariant-loop-index

@@ -1,14 +1,13 @@
 use Rattle.std.proofs.Common.{ap, is_none, refl, rules, subst, ◌||◌, ◌≡◌, ◌∙◌}
 use Rattle.std.specs.List.{list_any}
-use Rattle.lq_model.specs.Literals.{is_wrong}
-use Rattle.lq_model.specs.Update.{set_value_of}
+use Rattle.lq_model.specs.Kinds.{is_wrong}
+use Rattle.lq_model.specs.Rows.{set_value_of}
 use Rattle.lq_arm.proofs.Arms.{agree}
-use Rattle.lq_model.specs.Catalogue.{table_of, the_table}
+use Rattle.lq_model.specs.Catalogue.{table_of, the_table, column_missing}
 use Rattle.lq_model.specs.Comparison.{compares_wrongly}
 use Rattle.lq_decide.specs.Faults.{names_set}
-use Rattle.lq_model.specs.TableNames.{column_missing}
 use Rattle.lq_model.specs.Truth.{names_in}
-use Rattle.lq_rowops.specs.Edits.{AreSet}
+use Rattle.lq_rowops.specs.InsertTests.{AreSet}
 use Rattle.lq_rowops.proofs.updating.stated_by.Goals as goal
 
 pub returns : goal.returns

@@ -1,6 +1,6 @@
 use Rattle.std.proofs.Common.{◌≡◌}
 use Rattle.std.specs.List.{list_any}
-use Rattle.lq_model.specs.Row.{by_name, is_null}
+use Rattle.lq_model.specs.Catalogue.{by_name, is_null}
 use Rattle.lq_rows.proofs.held.null_in.Given as goal
 
 abbrev pub invariant-loop-row : goal.invariant-loop-row

@@ -1,5 +1,5 @@
 use Rattle.std.proofs.Common.{drop, map, ◌≡◌}
-use Rattle.lq_model.specs.Names.{is_in}
+use Rattle.lq_model.specs.Catalogue.{is_in}
 use Rattle.lq_rows.proofs.pick.has_column.Given as goal
 
 abbrev pub invariant-loop-column : goal.invariant-loop-column

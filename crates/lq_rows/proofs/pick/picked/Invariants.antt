@@ -1,5 +1,5 @@
 use Rattle.std.proofs.Common.{◌≡◌, take}
-use Rattle.lq_model.specs.Row.{picked}
+use Rattle.lq_model.specs.Catalogue.{picked}
 use Rattle.lq_rows.proofs.pick.picked.Given as goal
 
 abbrev pub invariant-loop-name : goal.invariant-loop-name

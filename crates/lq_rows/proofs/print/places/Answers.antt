@@ -1,6 +1,6 @@
 use Rattle.std.proofs.Common.{◌∙◌, subst}
 use Rattle.std.proofs.lemmas.Result.{IfOk-weaker}
-use Rattle.lq_rows.specs.Print.{ArePrints}
+use Rattle.lq_rows.specs.Stored.{ArePrints}
 use Rattle.lq_rows.proofs.PrintLemmas.{placed}
 use Rattle.lq_rows.proofs.print.places.Goals as goal
 

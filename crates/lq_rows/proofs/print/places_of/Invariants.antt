@@ -1,5 +1,5 @@
 use Rattle.std.proofs.Common.{◌≡◌, ◌++◌, drop}
-use Rattle.lq_rows.specs.Print.{places_from}
+use Rattle.lq_rows.specs.Stored.{places_from}
 use Rattle.lq_rows.proofs.print.places_of.Given as goal
 
 abbrev pub invariant-loop-at : goal.invariant-loop-at

@@ -1,5 +1,5 @@
 use Rattle.std.proofs.Common.{◌≡◌, ◌++◌, map}
-use Rattle.lq_rows.specs.Print.{fingerprint}
+use Rattle.lq_rows.specs.Stored.{fingerprint}
 use Rattle.lq_rows.proofs.print.print_all.Given as goal
 
 abbrev pub invariant-loop-row : goal.invariant-loop-row

@@ -1,6 +1,6 @@
 use Rattle.std.proofs.Common.{◌≡◌, drop}
 use Rattle.std.specs.List.{fold}
-use Rattle.lq_rows.specs.Print.{with_digit}
+use Rattle.lq_rows.specs.Stored.{with_digit}
 use Rattle.lq_rows.proofs.print.text_print.Given as goal
 
 abbrev pub invariant-loop-byte : goal.invariant-loop-byte

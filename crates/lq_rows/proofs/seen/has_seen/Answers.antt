@@ -1,8 +1,7 @@
 use Rattle.std.proofs.Common.{List, ap, rules, subst, ◌∙◌, ◌∷◌, ◌≡◌}
 use Rattle.lq_base.specs.declared.value.Value.{Value as Held}
 use Rattle.lq_model.specs.declared.column.Column.{Column as Shape}
-use Rattle.lq_rows.specs.Seen.{AllShow}
-use Rattle.lq_rows.specs.Stored.{ShowsRows, has_values}
+use Rattle.lq_rows.specs.Stored.{AllShow, ShowsRows, has_values}
 use Rattle.lq_rows.specs.declared.held.Seen.{Seen}
 use Rattle.lq_rows.proofs.seen.has_seen.Goals as goal
 

@@ -1,7 +1,7 @@
 use Rattle.std.proofs.Common.{List, length}
 use Rattle.lq_base.specs.declared.value.Value.{Value as Held}
 use Rattle.lq_model.specs.declared.column.Column.{Column as Shape}
-use Rattle.lq_rows.specs.Seen.{AllShow}
+use Rattle.lq_rows.specs.Stored.{AllShow}
 use Rattle.lq_rows.proofs.seen.has_seen.Given as goal
 
 abbrev pub invariant-loop-one : goal.invariant-loop-one

@@ -1,6 +1,6 @@
 use Rattle.std.proofs.Common.{List, vec_len, ◌≡◌}
 use Rattle.lq_base.specs.declared.value.Value.{Value}
-use Rattle.lq_rows.specs.Seen.{AllShow, ShowWith}
+use Rattle.lq_rows.specs.Stored.{AllShow, ShowWith}
 use Rattle.lq_rows.proofs.seen.keep_up.Given as goal
 
 abbrev pub invariant-loop-at : goal.invariant-loop-at

@@ -1,7 +1,7 @@
 use Rattle.std.proofs.Common.{drop, map, ◌≡◌}
 use Rattle.std.specs.List.{list_any}
-use Rattle.lq_model.specs.Twin.{is_twin_in}
-use Rattle.lq_rows.specs.Seen.{AllShow}
+use Rattle.lq_model.specs.Plan.{is_twin_in}
+use Rattle.lq_rows.specs.Stored.{AllShow}
 use Rattle.lq_rows.proofs.twin.unique_twin.Given as goal
 
 abbrev pub invariant-loop-unique : goal.invariant-loop-unique

@@ -1,5 +1,5 @@
 use Rattle.std.proofs.Common.{drop, ◌≡◌}
-use Rattle.lq_rows.specs.Order.{values_cmp}
+use Rattle.lq_rows.specs.Stored.{values_cmp}
 use Rattle.lq_rows.proofs.values.compare.Given as goal
 
 abbrev pub invariant-loop-x : goal.invariant-loop-x

@@ -2,9 +2,8 @@ use Rattle.std.proofs.Common.{List, false, map, refl, rules, subst, sym, â—Œ||â—
 use Rattle.std.specs.BTreeSet.{contains}
 use Rattle.std.specs.List.{list_any}
 use Rattle.lq_base.specs.declared.value.Value.{Value}
-use Rattle.lq_model.specs.Row.{has_equals, picked, same_values}
-use Rattle.lq_rows.specs.Order.{values_cmp}
-use Rattle.lq_rows.specs.Whole.{is_among}
+use Rattle.lq_model.specs.Catalogue.{has_equals, picked, same_values}
+use Rattle.lq_rows.specs.Stored.{values_cmp, is_among}
 use Rattle.lq_rows.proofs.WholeLemmas.{none_among, twins_step}
 use Rattle.lq_rows.proofs.whole.are_twins.Goals as goal
 

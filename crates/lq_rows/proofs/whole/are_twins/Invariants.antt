@@ -1,7 +1,7 @@
 use Rattle.std.proofs.Common.{map, ◌||◌, ◌≡◌}
 use Rattle.std.specs.List.{list_any}
-use Rattle.lq_model.specs.Row.{has_equals, picked}
-use Rattle.lq_rows.specs.Whole.{is_among}
+use Rattle.lq_model.specs.Catalogue.{has_equals, picked}
+use Rattle.lq_rows.specs.Stored.{is_among}
 use Rattle.lq_rows.proofs.whole.are_twins.Given as goal
 
 abbrev pub invariant-loop-row : goal.invariant-loop-row

@@ -1,7 +1,7 @@
 use Rattle.std.proofs.Common.{◌≡◌}
 use Rattle.std.specs.List.{list_any}
-use Rattle.lq_model.specs.Row.{picked}
-use Rattle.lq_rows.specs.Whole.{is_apart}
+use Rattle.lq_model.specs.Catalogue.{picked}
+use Rattle.lq_rows.specs.Stored.{is_apart}
 use Rattle.lq_rows.proofs.whole.lacks_one.Given as goal
 
 abbrev pub invariant-loop-row : goal.invariant-loop-row

@@ -10,7 +10,7 @@ use Rattle.lq_run.proofs.Stopping.{opened}
 use Rattle.lq_run.specs.Crashing.{CrashesFor}
 use Rattle.lq_turns.specs.declared.call.Call.TheVariants.{Alone}
 use Rattle.lq_run.proofs.Beside.{first_beside}
-use Rattle.lq_store.specs.Crashes.{Keeps}
+use Rattle.lq_store.specs.Journal.{Keeps}
 use Rattle.lq_run.proofs.alone.take_lock.Goals as goal
 
 pub returns-in-Ok-clause-does : goal.returns-in-Ok-clause-does

@@ -1,18 +1,16 @@
 use Rattle.lq_run.proofs.Behind.{behind_all}
 use Rattle.lq_run.proofs.Stopped.{left_all}
 use Rattle.lq_run.proofs.Whole.{ends_whole, leaves, not_taken, opens, tells, tells_whole}
-use Rattle.lq_run.specs.Commands.{script}
+use Rattle.lq_run.specs.Commands.{script, both_on}
 use Rattle.lq_run.specs.Ends.{EndsAs}
 use Rattle.lq_hand.specs.Hand.{calls_left}
 use Rattle.lq_hand.specs.Way.{IsUnderWay}
 use Rattle.lq_run.proofs.UnderWay.{if_full, known_under}
-use Rattle.lq_run.specs.Commands.{both_on}
-use Rattle.lq_run.specs.Steps.{end_of, place, standing}
-use Rattle.lq_run.specs.UnderWay.{TellsTo}
+use Rattle.lq_run.specs.Steps.{end_of, place, standing, TellsTo}
 use Rattle.lq_turns.specs.Session.{all_called}
 use Rattle.std.proofs.Common.{ap, false, subst, sym, true, ◌≡◌, ◌∙◌}
 use Rattle.std.specs.Prelude.{Err, None}
-use Rattle.lq_run.specs.Faults.{is_disk_end}
+use Rattle.lq_run.specs.Beside.{is_disk_end}
 use Rattle.lq_run.proofs.Known.{tells_fault}
 use Rattle.lq_run.proofs.Counting.{end_disk, is_the_disk, rose_later}
 use Rattle.lq_run.proofs.Stopping.{begun, not_begun}

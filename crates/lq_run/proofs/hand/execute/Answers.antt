@@ -5,7 +5,7 @@ use Rattle.lq_turns.specs.declared.call.Call.TheVariants.{Execute}
 use Rattle.lq_run.proofs.CallCrashes.{none_for}
 use Rattle.lq_run.proofs.Beside.{move_beside, stays}
 use Rattle.lq_run.proofs.Since.{leave_none}
-use Rattle.lq_store.specs.Crashes.{Keeps}
+use Rattle.lq_store.specs.Journal.{Keeps}
 use Rattle.lq_run.proofs.hand.execute.Goals as goal
 
 pub returns-in-Ok-clause-makes : goal.returns-in-Ok-clause-makes

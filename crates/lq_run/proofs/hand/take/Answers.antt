@@ -1,6 +1,6 @@
 use Rattle.lq_run.proofs.Takes.{take_crash, take_fault, take_lack, take_on, take_refused}
 use Rattle.lq_run.proofs.Beside.{next_on}
-use Rattle.lq_store.specs.State.{is_open}
+use Rattle.lq_store.specs.Journal.{is_open}
 use Rattle.lq_run.proofs.hand.take.Goals as goal
 
 pub returns-in-On-clause-takes : goal.returns-in-On-clause-takes

@@ -1,6 +1,6 @@
 use Rattle.std.proofs.Common.{subst}
 use Rattle.lq_run.proofs.Names.{names_behind, names_none}
-use Rattle.lq_run.specs.Holds.{StandsBehind}
+use Rattle.lq_run.specs.Stands.{StandsBehind}
 use Rattle.lq_run.proofs.holding.name_held.Goals as goal
 
 pub returns-in-Some : goal.returns-in-Some

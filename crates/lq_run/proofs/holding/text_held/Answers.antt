@@ -1,5 +1,5 @@
 use Rattle.std.proofs.Common.{subst}
-use Rattle.lq_run.specs.Holds.{Names}
+use Rattle.lq_run.specs.Stands.{Names}
 use Rattle.lq_run.proofs.holding.text_held.Goals as goal
 
 pub returns : goal.returns

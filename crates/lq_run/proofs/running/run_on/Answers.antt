@@ -7,10 +7,9 @@ use Rattle.lq_run.proofs.RunCrashes.{step_crash}
 use Rattle.lq_run.proofs.Since.{leave_none, leave_then}
 use Rattle.lq_run.specs.Crashing.{CrashesStep, LeftInRun}
 use Rattle.lq_run.specs.Ends.{at_end}
-use Rattle.lq_run.specs.Steps.{Steps, place, standing}
-use Rattle.lq_run.specs.UnderWay.{Stays}
+use Rattle.lq_run.specs.Steps.{Steps, place, standing, Stays}
 use Rattle.lq_run.specs.declared.runner.Step.TheVariants as step
-use Rattle.lq_store.specs.State.{is_open}
+use Rattle.lq_store.specs.Journal.{is_open}
 use Rattle.lq_run.proofs.running.run_on.Goals as goal
 
 pub loop-init : goal.loop-init

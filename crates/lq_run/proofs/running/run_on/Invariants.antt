@@ -1,13 +1,11 @@
 use Rattle.std.proofs.Common.{◌≡◌, false}
 use Rattle.std.specs.Prelude.{◌≤◌}
-use Rattle.lq_store.specs.State.{State}
-use Rattle.lq_turns.specs.Rest.{rest}
+use Rattle.lq_store.specs.Journal.{State}
+use Rattle.lq_turns.specs.Rest.{rest, both_of}
 use Rattle.lq_turns.specs.Session.{Session}
-use Rattle.lq_turns.specs.Stepped.{both_of}
 use Rattle.lq_run.specs.Crashing.{CrashesOn}
 use Rattle.lq_run.specs.Ends.{IsRunning, KeepsFull, Reaches, at_end, disk_failed}
-use Rattle.lq_run.specs.Steps.{is_over, place, standing}
-use Rattle.lq_run.specs.UnderWay.{IsAfterFault}
+use Rattle.lq_run.specs.Steps.{is_over, place, standing, IsAfterFault}
 use Rattle.lq_run.proofs.running.run_on.Given as goal
 
 -- wherever it began, it is on the way to the same end

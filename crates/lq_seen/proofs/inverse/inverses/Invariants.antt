@@ -4,7 +4,7 @@ use Rattle.lq_kinds.specs.AnyChange.{is_for}
 use Rattle.lq_seen.proofs.Inverses.{before}
 use Rattle.lq_seen.proofs.inverse.inverses.Given as goal
 use Rattle.lq_seen.specs.View.{any_meaning}
-use Rattle.lq_turns.specs.Effects.{inverses}
+use Rattle.lq_turns.specs.Set.{inverses}
 
 abbrev pub invariant-loop-change : goal.invariant-loop-change
 invariant-loop-change l = (before l.statements (inverses l.dialect any_meaning l.rest) ≡ inverses l.dialect any_meaning l.changes) × (list_all (is_for l.dialect) l.rest ≡ true)

@@ -1,7 +1,7 @@
 use Rattle.std.proofs.Common.{ap, rules, sym, ◌∙◌, ◌≡◌, ◌∷◌}
 use Rattle.std.specs.List.{list_all}
 use Rattle.lq_model.proofs.Lists.{and_left, and_right}
-use Rattle.lq_model.specs.Statement.{is_statement}
+use Rattle.lq_model.specs.Step.{is_statement}
 use Rattle.lq_model.specs.StatementText.{text_of}
 use Rattle.lq_seen.proofs.Mapped.{all_mapped, more_mapped}
 use Rattle.lq_seen.proofs.printing.texts_of.Goals as goal

@@ -1,6 +1,6 @@
 use Rattle.std.proofs.Common.{length, map, true, ◌≡◌, ◌++◌}
 use Rattle.std.specs.List.{list_all}
-use Rattle.lq_model.specs.Statement.{is_statement}
+use Rattle.lq_model.specs.Step.{is_statement}
 use Rattle.lq_model.specs.StatementText.{text_of}
 use Rattle.lq_seen.proofs.printing.texts_of.Given as goal
 

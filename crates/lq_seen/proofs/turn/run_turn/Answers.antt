@@ -1,8 +1,7 @@
 use Rattle.std.proofs.Common.{ap, ◌∙◌}
 use Rattle.lq_model.specs.declared.statement.Statement.{Statement}
 use Rattle.lq_seen.proofs.turn.run_turn.Goals as goal
-use Rattle.lq_seen.specs.Turns.{turn_of}
-use Rattle.lq_seen.specs.View.{view}
+use Rattle.lq_seen.specs.View.{turn_of, view}
 use Rattle.lq_turns.specs.Settle.{record_in}
 use Rattle.std.specs.Prelude.{List}
 

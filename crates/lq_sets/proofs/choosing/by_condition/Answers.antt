@@ -3,7 +3,7 @@ use Rattle.lq_cond.specs.Told.{told}
 use Rattle.lq_sets.proofs.Chosen.{choice_so, in_dialect}
 use Rattle.lq_sets.proofs.choosing.by_condition.Goals as goal
 use Rattle.lq_seen.specs.View.{view}
-use Rattle.lq_turns.specs.Contents.{contents_of}
+use Rattle.lq_turns.specs.Deed.{contents_of}
 use Rattle.lq_verdicts.specs.Verdict.{IsTold}
 
 pub returns : goal.returns

@@ -1,6 +1,5 @@
 use Rattle.std.proofs.Common.{length, map, ◌≡◌, ◌++◌}
-use Rattle.lq_plan.specs.Head.{headed}
-use Rattle.lq_plan.specs.Told.{bare}
+use Rattle.lq_plan.specs.Told.{headed, bare}
 use Rattle.lq_sets.proofs.heads.heads_of.Given as goal
 use Rattle.lq_seen.specs.View.{views}
 

@@ -1,6 +1,6 @@
 use Rattle.std.proofs.Common.{arith, subst, sym}
 use Rattle.lq_sets.proofs.Gathered.{and_gathered, gathered_by, gathered_next, not_gathered, or_gathered}
-use Rattle.lq_sets.specs.Seen.{Gathered, GatheredEach}
+use Rattle.lq_sets.specs.Counting.{Gathered, GatheredEach}
 use Rattle.lq_sets.proofs.rows_asked.+asked.Goals as goal
 
 pub add_asked-returns-in_ok-add_each-in-And : goal.add_asked-returns-in_ok-add_each-in-And

@@ -1,6 +1,6 @@
 use Rattle.std.proofs.Common.{subst}
 use Rattle.lq_sets.proofs.Gathered.{suffices}
-use Rattle.lq_sets.specs.Seen.{Gathered}
+use Rattle.lq_sets.specs.Counting.{Gathered}
 use Rattle.lq_sets.proofs.rows_asked.rows_asked.Goals as goal
 
 pub returns : goal.returns

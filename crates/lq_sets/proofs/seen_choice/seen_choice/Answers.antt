@@ -1,5 +1,5 @@
 use Rattle.std.proofs.Common.{subst, sym}
-use Rattle.lq_sets.specs.Seen.{Suffice}
+use Rattle.lq_sets.specs.Counting.{Suffice}
 use Rattle.lq_sets.proofs.seen_choice.seen_choice.Goals as goal
 
 pub returns : goal.returns

@@ -1,7 +1,7 @@
 use Rattle.std.proofs.Common.{ap, List, ◌++◌, ◌∙◌}
 use Rattle.std.specs.List.{list_all}
 use Rattle.lq_base.specs.declared.run.Printed.{Printed}
-use Rattle.lq_model.specs.Statement.{is_statement}
+use Rattle.lq_model.specs.Step.{is_statement}
 use Rattle.lq_sets.proofs.TurnMade.{can_be_made, texts_made}
 use Rattle.lq_sets.proofs.set_hand.hand_for.Goals as goal
 

@@ -1,5 +1,5 @@
 use Rattle.std.proofs.Common.{ap, is_some, sym, ◌∙◌}
-use Rattle.lq_shapes.specs.Shown.{kind_at}
+use Rattle.lq_shapes.specs.Created.{kind_at}
 use Rattle.lq_shapes.proofs.KindLemmas as lemma
 use Rattle.lq_shapes.proofs.columns.put_kind.Goals as goal
 

@@ -1,7 +1,7 @@
 use Rattle.std.proofs.Common.{◌≡◌, ◌||◌, map, take}
 use Rattle.std.specs.List.{list_any}
-use Rattle.lq_model.specs.Names.{repeats}
-use Rattle.lq_shapes.specs.Shown.{has_name}
+use Rattle.lq_model.specs.Catalogue.{repeats}
+use Rattle.lq_shapes.specs.Created.{has_name}
 use Rattle.lq_shapes.proofs.names.repeats.Given as goal
 
 abbrev pub invariant-loop-at : goal.invariant-loop-at

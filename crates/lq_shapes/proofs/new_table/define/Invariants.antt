@@ -1,8 +1,8 @@
 use Rattle.std.proofs.Common.{map, take, ◌≡◌}
 use Rattle.std.specs.List.{list_any}
 use Rattle.lq_base.specs.Value.{into_kind}
-use Rattle.lq_model.specs.CreateTable.{key_column}
-use Rattle.lq_model.specs.Literals.{column_of, is_wide, is_wrong, literal_of}
+use Rattle.lq_model.specs.Tables.{key_column}
+use Rattle.lq_model.specs.Kinds.{column_of, is_wide, is_wrong, literal_of}
 use Rattle.lq_shapes.proofs.new_table.define.Given as goal
 
 abbrev pub invariant-loop-def : goal.invariant-loop-def

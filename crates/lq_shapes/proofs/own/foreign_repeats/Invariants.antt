@@ -1,6 +1,6 @@
 use Rattle.std.proofs.Common.{false, take, ◌≡◌, ◌||◌}
 use Rattle.std.specs.List.{list_any}
-use Rattle.lq_model.specs.Names.{repeats}
+use Rattle.lq_model.specs.Catalogue.{repeats}
 use Rattle.lq_shapes.proofs.own.foreign_repeats.Given as goal
 
 abbrev pub invariant-loop-key : goal.invariant-loop-key

@@ -1,6 +1,6 @@
 use Rattle.std.proofs.Common.{ap, sym, ◌||◌}
 use Rattle.std.specs.List.{list_any}
-use Rattle.lq_model.specs.Query.{lacks_column}
+use Rattle.lq_model.specs.Views.{lacks_column}
 use Rattle.lq_shapes.proofs.CreatedLemmas.{lists_are}
 use Rattle.lq_shapes.proofs.own.lacks_own.Goals as goal
 

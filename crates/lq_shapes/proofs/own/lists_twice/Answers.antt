@@ -1,6 +1,6 @@
 use Rattle.std.proofs.Common.{ap, map, sym, ◌||◌}
 use Rattle.std.specs.List.{list_any}
-use Rattle.lq_model.specs.Names.{repeats}
+use Rattle.lq_model.specs.Catalogue.{repeats}
 use Rattle.lq_shapes.proofs.CreatedLemmas.{lists_are}
 use Rattle.lq_shapes.proofs.own.lists_twice.Goals as goal
 

@@ -1,7 +1,7 @@
 use Rattle.std.proofs.Common.{◌≡◌, ◌++◌, length, true}
 use Rattle.std.specs.List.{list_all}
 use Rattle.lq_codec.specs.Codec.{both, write_each}
-use Rattle.lq_codec.specs.Database.{sequence_codec}
+use Rattle.lq_codec.specs.Tables.{sequence_codec}
 use Rattle.lq_codec.specs.Words.{name}
 use Rattle.lq_snap.proofs.objects.append_sequences.Given as goal
 

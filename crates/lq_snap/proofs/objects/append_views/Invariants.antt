@@ -1,7 +1,7 @@
 use Rattle.std.proofs.Common.{◌≡◌, ◌++◌, length}
 use Rattle.lq_codec.specs.Codec.{both, write_each}
-use Rattle.lq_codec.specs.Database.{view_codec}
-use Rattle.lq_codec.specs.Limits.{free, if_both}
+use Rattle.lq_codec.specs.Tables.{view_codec}
+use Rattle.lq_codec.specs.State.{free, if_both}
 use Rattle.lq_codec.specs.Words.{name}
 use Rattle.lq_coded.proofs.Each.{AreFit}
 use Rattle.lq_state.specs.Shaped.{is_shaped_view}

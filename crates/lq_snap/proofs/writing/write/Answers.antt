@@ -1,6 +1,6 @@
 use Rattle.std.proofs.Common.{ap, subst, true, ◌∙◌, ◌≡◌}
-use Rattle.lq_codec.specs.Database.{bytes_of, can_be_written}
-use Rattle.lq_codec.specs.Limits.{OnTrue}
+use Rattle.lq_codec.specs.Tables.{bytes_of, can_be_written}
+use Rattle.lq_codec.specs.State.{OnTrue}
 use Rattle.lq_model.specs.Catalogue.{Catalogue}
 use Rattle.lq_snap.proofs.SoundShape.{reads_back}
 use Rattle.lq_snap.proofs.writing.write.Goals as goal

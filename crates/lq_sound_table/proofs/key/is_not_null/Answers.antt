@@ -1,5 +1,5 @@
 use Rattle.std.proofs.Common.{ap, not, sym, ◌∙◌}
-use Rattle.lq_model.specs.Names.{is_in}
+use Rattle.lq_model.specs.Catalogue.{is_in}
 use Rattle.lq_sound_table.proofs.PieceLemmas.{not_null}
 use Rattle.lq_sound_table.proofs.key.is_not_null.Goals as goal
 

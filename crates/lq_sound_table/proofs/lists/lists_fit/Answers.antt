@@ -1,5 +1,5 @@
 use Rattle.std.specs.Option.{option_copied}
-use Rattle.lq_model.specs.TableNames.{key_list}
+use Rattle.lq_model.specs.Catalogue.{key_list}
 use Rattle.lq_sound_table.specs.Pieces.{are_some_of}
 use Rattle.lq_sound_table.proofs.PieceLemmas.{lists_all}
 use Rattle.lq_sound_table.proofs.lists.lists_fit.Goals as goal

@@ -1,5 +1,5 @@
 use Rattle.std.proofs.Common.{length, ◌≡◌}
-use Rattle.lq_model.specs.Row.{has_bad_null}
+use Rattle.lq_model.specs.Catalogue.{has_bad_null}
 use Rattle.lq_sound_table.proofs.rows.has_bad_null.Given as goal
 
 abbrev pub invariant-loop-column : goal.invariant-loop-column

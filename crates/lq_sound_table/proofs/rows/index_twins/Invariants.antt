@@ -1,6 +1,6 @@
 use Rattle.std.proofs.Common.{drop, map, ◌≡◌}
 use Rattle.std.specs.List.{filter, list_any}
-use Rattle.lq_model.specs.Row.{has_equals, picked}
+use Rattle.lq_model.specs.Catalogue.{has_equals, picked}
 use Rattle.lq_sound_table.proofs.rows.index_twins.Given as goal
 
 abbrev pub invariant-loop-index : goal.invariant-loop-index

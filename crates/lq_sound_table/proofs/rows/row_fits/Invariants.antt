@@ -1,5 +1,5 @@
 use Rattle.std.proofs.Common.{length, ◌≡◌}
-use Rattle.lq_model.specs.Row.{row_fits}
+use Rattle.lq_model.specs.Catalogue.{row_fits}
 use Rattle.lq_sound_table.proofs.rows.row_fits.Given as goal
 
 abbrev pub invariant-loop-column : goal.invariant-loop-column

@@ -1,6 +1,6 @@
 use Rattle.std.proofs.Common.{◌≡◌}
 use Rattle.std.specs.List.{list_all}
-use Rattle.lq_model.specs.Row.{row_fits}
+use Rattle.lq_model.specs.Catalogue.{row_fits}
 use Rattle.lq_sound_table.proofs.rows.rows_fit.Given as goal
 
 abbrev pub invariant-loop-row : goal.invariant-loop-row

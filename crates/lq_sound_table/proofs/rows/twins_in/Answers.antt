@@ -1,8 +1,7 @@
 use Rattle.std.proofs.Common.{map}
 use Rattle.std.specs.List.{filter}
 use Rattle.std.specs.Option.{option_copied}
-use Rattle.lq_model.specs.Row.{has_equals, picked}
-use Rattle.lq_model.specs.TableNames.{key_list}
+use Rattle.lq_model.specs.Catalogue.{has_equals, picked, key_list}
 use Rattle.lq_sound_table.proofs.PieceLemmas.{lists_any}
 use Rattle.lq_sound_table.proofs.rows.twins_in.Goals as goal
 

@@ -1,6 +1,6 @@
 use Rattle.std.proofs.Common.{drop, map, ◌≡◌}
 use Rattle.std.specs.List.{list_any}
-use Rattle.lq_model.specs.Row.{has_equals, picked}
+use Rattle.lq_model.specs.Catalogue.{has_equals, picked}
 use Rattle.lq_sound_table.proofs.rows.unique_twins.Given as goal
 
 abbrev pub invariant-loop-unique : goal.invariant-loop-unique

@@ -1,5 +1,5 @@
 use Rattle.std.proofs.Common.{drop, map, ◌++◌, ◌≡◌}
-use Rattle.lq_model.specs.TableNames.{placed}
+use Rattle.lq_model.specs.Catalogue.{placed}
 use Rattle.lq_soundly.proofs.apart.push_placed.Given as goal
 
 abbrev pub invariant-loop-name : goal.invariant-loop-name

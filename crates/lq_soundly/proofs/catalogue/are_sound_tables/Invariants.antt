@@ -3,7 +3,7 @@ use Rattle.std.specs.List.{list_all}
 use Rattle.lq_base.specs.declared.name.Name.{Name}
 use Rattle.lq_model.specs.Catalogue.{Table}
 use Rattle.lq_parts.specs.Steps.{tables_of}
-use Rattle.lq_codec.specs.Sound.{is_sound_table}
+use Rattle.lq_codec.specs.State.{is_sound_table}
 use Rattle.lq_soundly.proofs.catalogue.are_sound_tables.Given as goal
 
 abbrev pub invariant-loop-entry : goal.invariant-loop-entry

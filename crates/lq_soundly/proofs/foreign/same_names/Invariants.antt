@@ -1,5 +1,5 @@
 use Rattle.std.proofs.Common.{length, ◌≡◌}
-use Rattle.lq_model.specs.Names.{same_names}
+use Rattle.lq_model.specs.Catalogue.{same_names}
 use Rattle.lq_soundly.proofs.foreign.same_names.Given as goal
 
 abbrev pub invariant-loop-x : goal.invariant-loop-x

@@ -1,5 +1,5 @@
 use Rattle.std.proofs.Common.{ap, not, ◌∙◌}
-use Rattle.lq_model.specs.Names.{is_in}
+use Rattle.lq_model.specs.Catalogue.{is_in}
 use Rattle.lq_model.specs.Truth.{test_names}
 use Rattle.lq_sound_table.specs.Pieces.{names_of}
 use Rattle.lq_soundly.proofs.TestedLemmas.{not_lacking}

@@ -1,5 +1,5 @@
 use Rattle.std.proofs.Common.{ap, cond, rules, sym, true, ◌≡◌, ◌∙◌}
-use Rattle.lq_sources.specs.SoFar.{so_far, with_set}
+use Rattle.lq_sources.specs.Items.{so_far, with_set}
 use Rattle.lq_sources.specs.Walk.{is_set}
 use Rattle.lq_sources.proofs.gathering.count_item.Goals as goal
 

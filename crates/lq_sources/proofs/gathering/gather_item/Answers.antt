@@ -1,5 +1,5 @@
 use Rattle.std.proofs.Common.{ap, cond, rules, ◌∙◌, ◌≡◌}
-use Rattle.lq_sources.specs.SoFar.{so_far, with_set}
+use Rattle.lq_sources.specs.Items.{so_far, with_set}
 use Rattle.lq_sources.specs.Walk.{held, is_set}
 use Rattle.lq_sources.proofs.Steps.{gathered_answer}
 use Rattle.lq_sources.proofs.gathering.gather_item.Goals as goal

@@ -1,5 +1,5 @@
 use Rattle.std.proofs.Common.{Err, ap, refl, rules, subst, sym, ◌∙◌, ◌≡◌, ◌⊎◌}
-use Rattle.lq_sources.specs.SoFar.{SoFar, so_far, with_file}
+use Rattle.lq_sources.specs.Items.{SoFar, so_far, with_file}
 use Rattle.lq_sources.specs.Walk.{held}
 use Rattle.lq_sources.specs.declared.fault.LoadFault.TheVariants.{OutOfMemory}
 use Rattle.lq_sources.proofs.Steps.{AtWanted, Turn, wanted_init, wanted_next, wanted_not_taken}

@@ -1,5 +1,5 @@
 use Rattle.std.proofs.Common.{◌-◌, ◌≡◌}
-use Rattle.lq_sources.specs.SoFar.{so_far}
+use Rattle.lq_sources.specs.Items.{so_far}
 use Rattle.lq_sources.specs.Walk.{held}
 use Rattle.lq_sources.proofs.Steps.{AtWanted}
 use Rattle.lq_sources.proofs.gathering.take_wanted.Given as goal

@@ -1,6 +1,6 @@
 use Rattle.std.proofs.Common.{◌≡◌, drop, None}
 use Rattle.lq_props.specs.Props.{own}
-use Rattle.lq_sources.specs.SoFar.{given_values}
+use Rattle.lq_sources.specs.Items.{given_values}
 use Rattle.lq_sources.proofs.reading.given_props.Given as goal
 
 abbrev pub invariant-loop-entry : goal.invariant-loop-entry

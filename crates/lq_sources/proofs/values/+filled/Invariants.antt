@@ -1,6 +1,6 @@
 use Rattle.std.proofs.Common.{◌≡◌, ◌++◌, drop, map}
 use Rattle.lq_props.specs.Props.{own}
-use Rattle.lq_sources.specs.Values.{filled, value_in}
+use Rattle.lq_sources.specs.Items.{filled, value_in}
 use Rattle.lq_sources.proofs.values.+filled.Given as goal
 
 abbrev pub invariant-nodes_filled-loop-node : goal.invariant-nodes_filled-loop-node

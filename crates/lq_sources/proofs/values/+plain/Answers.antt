@@ -1,5 +1,5 @@
 use Rattle.std.proofs.Common.{◌≡◌, ◌∙◌, ap, map, sym, rules}
-use Rattle.lq_sources.specs.Values.{filled}
+use Rattle.lq_sources.specs.Items.{filled}
 use Rattle.lq_sources.proofs.Plain.{one_more}
 use Rattle.lq_sources.proofs.StillSmall.{filled_list, filled_map}
 use Rattle.lq_tree.specs.declared.node.Node.{List as ListNode, Map as MapNode}

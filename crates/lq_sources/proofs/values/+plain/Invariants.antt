@@ -1,5 +1,5 @@
 use Rattle.std.proofs.Common.{◌≡◌, ℕ, List, Option, map, drop}
-use Rattle.lq_sources.specs.Values.{filled}
+use Rattle.lq_sources.specs.Items.{filled}
 use Rattle.lq_sources.proofs.values.+plain.Given as goal
 
 abbrev pub invariant-are_plain-loop-node : goal.invariant-are_plain-loop-node

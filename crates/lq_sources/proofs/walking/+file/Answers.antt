@@ -1,6 +1,6 @@
 use Rattle.std.proofs.Common.{rules, false, ◌∙◌, ap, sym}
 use Rattle.lq_sources.specs.Faults.{in_file}
-use Rattle.lq_sources.specs.SoFar.{so_far, with_file}
+use Rattle.lq_sources.specs.Items.{so_far, with_file}
 use Rattle.lq_sources.specs.Walk.{file, held, take_item, take_path}
 use Rattle.lq_sources.proofs.Steps.{contents_answer, folder_answer, item_failed, item_taken, not_opened, opened, path_answer}
 use Rattle.lq_sources.proofs.walking.+file.Goals as goal

@@ -1,6 +1,5 @@
 use Rattle.std.proofs.Common.{◌≡◌, ◌≤◌, ◌+◌, suc, length}
-use Rattle.lq_base.specs.SqlComment.{comment_end}
-use Rattle.lq_base.specs.SqlQuoted.{after}
+use Rattle.lq_base.specs.Sql.{comment_end, after}
 use Rattle.lq_sqllex.proofs.comment.comment_end.Given as goal
 
 abbrev pub invariant-loop-rest : goal.invariant-loop-rest

@@ -1,7 +1,6 @@
 use Rattle.std.proofs.Common.{◌∙◌, ap, sym, Bool}
 use Rattle.lq_base.specs.declared.lexeme.LexemeSort.{LexemeSort}
-use Rattle.lq_base.specs.SqlLexeme.{length_of}
-use Rattle.lq_base.specs.SqlQuoted.{quoted_length}
+use Rattle.lq_base.specs.Sql.{length_of, quoted_length}
 use Rattle.lq_sqllex.proofs.length.length_of.Goals as goal
 
 pub returns-in-Text-clause-value : goal.returns-in-Text-clause-value

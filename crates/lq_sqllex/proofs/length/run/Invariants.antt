@@ -1,6 +1,6 @@
 use Rattle.std.proofs.Common.{◌≡◌, ◌+◌, drop}
 use Rattle.std.specs.List.{prefix_len}
-use Rattle.lq_base.specs.SqlLexeme.{goes_on}
+use Rattle.lq_base.specs.Sql.{goes_on}
 use Rattle.lq_sqllex.proofs.length.run.Given as goal
 
 abbrev pub invariant-loop-count : goal.invariant-loop-count

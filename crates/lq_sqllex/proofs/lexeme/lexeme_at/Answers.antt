@@ -1,7 +1,7 @@
 use Rattle.std.proofs.Common.{◌≡◌, ◌∙◌, ◌<◌, ◌∷◌, ◌++◌, length, Some, ap, sym, rules}
 use Rattle.std.specs.Prelude.{option_map}
 use Rattle.lq_base.specs.declared.lexeme.LexemeSort.{LexemeSort}
-use Rattle.lq_base.specs.SqlLexeme.{length_at, lexemes}
+use Rattle.lq_base.specs.Sql.{length_at, lexemes}
 use Rattle.lq_sqllex.proofs.LexemeSteps.{lexemes_on}
 use Rattle.lq_sqllex.proofs.lexeme.lexeme_at.Goals as goal
 

@@ -1,6 +1,6 @@
 use Rattle.std.proofs.Common.{◌≡◌, ◌≤◌, ◌<◌, ◌-◌, ℕ, false, length, take, drop}
 use Rattle.std.specs.Str.{IsCharBoundary}
-use Rattle.lq_base.specs.SqlByte.{begins}
+use Rattle.lq_base.specs.Sql.{begins}
 use Rattle.lq_sqllex.specs.Pieces.{pieces}
 use Rattle.lq_sqllex.proofs.PieceSteps.{going}
 use Rattle.lq_sqllex.proofs.pieces.split.Given as goal

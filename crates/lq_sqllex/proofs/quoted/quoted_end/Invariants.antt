@@ -1,5 +1,5 @@
 use Rattle.std.proofs.Common.{◌≡◌, ◌+◌, length}
-use Rattle.lq_base.specs.SqlQuoted.{after, quoted_end}
+use Rattle.lq_base.specs.Sql.{after, quoted_end}
 use Rattle.lq_sqllex.proofs.quoted.quoted_end.Given as goal
 
 abbrev pub invariant-loop-rest : goal.invariant-loop-rest

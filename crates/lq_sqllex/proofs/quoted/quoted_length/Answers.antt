@@ -1,5 +1,5 @@
 use Rattle.std.proofs.Common.{◌∙◌, ap, ℕ, List, slice_index}
-use Rattle.lq_base.specs.SqlQuoted.{after, quoted_end}
+use Rattle.lq_base.specs.Sql.{after, quoted_end}
 use Rattle.lq_sqllex.proofs.quoted.quoted_length.Goals as goal
 
 pub returns-clause-value : goal.returns-clause-value

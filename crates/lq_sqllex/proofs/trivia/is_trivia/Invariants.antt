@@ -1,5 +1,5 @@
 use Rattle.std.proofs.Common.{◌≡◌, length}
-use Rattle.lq_base.specs.SqlLexeme.{is_trivia}
+use Rattle.lq_base.specs.Sql.{is_trivia}
 use Rattle.lq_sqllex.proofs.trivia.is_trivia.Given as goal
 
 abbrev pub invariant-loop-left : goal.invariant-loop-left

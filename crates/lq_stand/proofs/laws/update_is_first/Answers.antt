@@ -1,4 +1,4 @@
-use Rattle.lq_turns.specs.Promised.{meaning}
+use Rattle.lq_turns.specs.Set.{meaning}
 use Rattle.lq_stand.proofs.FirstRows.{update_is_first}
 use Rattle.lq_stand.proofs.laws.update_is_first.Goals as goal
 

@@ -1,5 +1,5 @@
 use Rattle.std.proofs.Common.{◌≡◌, length}
-use Rattle.lq_model.specs.SqlColumn.{column_with}
+use Rattle.lq_model.specs.SqlTable.{column_with}
 use Rattle.lq_statement.proofs.Clauses.{with_clauses}
 use Rattle.lq_statement.proofs.column.column_with.Given as goal
 

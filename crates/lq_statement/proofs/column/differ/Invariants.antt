@@ -1,5 +1,5 @@
 use Rattle.std.proofs.Common.{◌≡◌, length}
-use Rattle.lq_model.specs.SqlColumn.{differ}
+use Rattle.lq_model.specs.SqlTable.{differ}
 use Rattle.lq_statement.proofs.column.differ.Given as goal
 
 abbrev pub invariant-loop-rest : goal.invariant-loop-rest

@@ -1,6 +1,6 @@
 use Rattle.std.proofs.Common.{◌≡◌, drop}
 use Rattle.std.specs.List.{list_any}
-use Rattle.lq_model.specs.SqlColumn.{same_sort}
+use Rattle.lq_model.specs.SqlTable.{same_sort}
 use Rattle.lq_statement.proofs.column.has_sort.Given as goal
 
 abbrev pub invariant-loop-other : goal.invariant-loop-other

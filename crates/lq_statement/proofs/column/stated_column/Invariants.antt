@@ -1,4 +1,4 @@
-use Rattle.lq_model.specs.SqlColumn.{column_clause}
+use Rattle.lq_model.specs.SqlTable.{column_clause}
 use Rattle.lq_statement.proofs.column.stated_column.Given as goal
 
 abbrev pub ghost-many : goal.ghost-many

@@ -1,4 +1,4 @@
-use Rattle.lq_model.specs.SqlColumn.{column_foreign}
+use Rattle.lq_model.specs.SqlTable.{column_foreign}
 use Rattle.lq_statement.proofs.inline.column_foreign.Goals as goal
 
 pub returns-in-Some : goal.returns-in-Some

@@ -1,7 +1,6 @@
 use Rattle.std.proofs.Common.{ap, not, sym}
 use Rattle.std.specs.Option.{option_copied}
-use Rattle.lq_model.specs.Names.{same_names}
-use Rattle.lq_model.specs.TableNames.{key_list}
+use Rattle.lq_model.specs.Catalogue.{same_names, key_list}
 use Rattle.lq_shapes.proofs.CreatedLemmas.{targets_are}
 use Rattle.lq_tableops.proofs.aims.are_loose.Goals as goal
 

@@ -1,7 +1,7 @@
 use Rattle.std.proofs.Common.{drop, ◌≡◌}
 use Rattle.std.specs.List.{list_any}
 use Rattle.lq_model.specs.NameSpaces.{all_foreign_names}
-use Rattle.lq_model.specs.Names.{is_in}
+use Rattle.lq_model.specs.Catalogue.{is_in}
 use Rattle.lq_tableops.proofs.clashes.each_foreign.Given as goal
 
 abbrev pub invariant-loop-name : goal.invariant-loop-name

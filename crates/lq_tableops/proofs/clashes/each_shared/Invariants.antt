@@ -2,7 +2,7 @@ use Rattle.std.proofs.Common.{drop, ◌≡◌}
 use Rattle.std.specs.List.{list_any}
 use Rattle.lq_base.specs.Name.{beside}
 use Rattle.lq_model.specs.NameSpaces.{shared_names}
-use Rattle.lq_model.specs.Names.{is_in}
+use Rattle.lq_model.specs.Catalogue.{is_in}
 use Rattle.lq_tableops.proofs.clashes.each_shared.Given as goal
 
 abbrev pub invariant-loop-name : goal.invariant-loop-name

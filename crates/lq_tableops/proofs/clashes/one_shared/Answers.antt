@@ -1,6 +1,6 @@
 use Rattle.std.proofs.Common.{ap, ◌||◌}
 use Rattle.lq_model.specs.NameSpaces.{shared_names}
-use Rattle.lq_model.specs.Names.{is_in}
+use Rattle.lq_model.specs.Catalogue.{is_in}
 use Rattle.lq_tableops.proofs.ClashLemmas.{shared_inside}
 use Rattle.lq_tableops.proofs.clashes.one_shared.Goals as goal
 

@@ -1,11 +1,11 @@
 use Rattle.std.proofs.Common.{Err, None, Ok, ap, subst, sym, ◌∙◌, ◌≡◌}
 use Rattle.lq_chain.specs.History.{History, changed}
 use Rattle.lq_model.specs.Catalogue.{Catalogue, table_of, with_new}
-use Rattle.lq_model.specs.CreateTable as spec
+use Rattle.lq_model.specs.Tables as spec
 use Rattle.lq_decide.specs.Faults.{create_table_faults}
 use Rattle.lq_decide.proofs.Tables.{create_table_judged}
 use Rattle.lq_model.specs.Plan.{decide}
-use Rattle.lq_rows.specs.Answers.{Answers}
+use Rattle.lq_rows.specs.Stored.{Answers}
 use Rattle.lq_rows.proofs.Continued.{goes_on}
 use Rattle.lq_arm.proofs.Arms as arm
 use Rattle.lq_tableops.proofs.CreateLemmas as lemma

@@ -1,5 +1,5 @@
 use Rattle.std.proofs.Common.{ap, refl, subst, ◌∙◌, ◌||◌, ◌≡◌}
-use Rattle.lq_model.specs.CreateTable.{lacks_own, lists_twice}
+use Rattle.lq_model.specs.Tables.{lacks_own, lists_twice}
 use Rattle.lq_shapes.specs.Created.{made}
 use Rattle.lq_tableops.specs.Aimed.{AreAims}
 use Rattle.lq_tableops.proofs.CreateLemmas.{create_tests_are}

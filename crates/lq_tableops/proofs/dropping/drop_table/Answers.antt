@@ -1,4 +1,4 @@
-use Rattle.lq_model.specs.DropTable as spec
+use Rattle.lq_model.specs.Tables as spec
 use Rattle.lq_decide.specs.Faults.{no_faults}
 use Rattle.lq_decide.proofs.Tables.{drop_table_judged}
 use Rattle.lq_rows.proofs.Continued.{goes_on}

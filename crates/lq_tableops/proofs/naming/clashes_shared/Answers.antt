@@ -1,6 +1,6 @@
 use Rattle.std.proofs.Common.{refl, ◌∷◌}
 use Rattle.lq_shapes.specs.Created.{made}
-use Rattle.lq_model.specs.TableNames.{constraint_names, inner_names, placed}
+use Rattle.lq_model.specs.Catalogue.{constraint_names, inner_names, placed}
 use Rattle.lq_tableops.proofs.NamingLemmas as lemma
 use Rattle.lq_tableops.proofs.naming.clashes_shared.Goals as goal
 

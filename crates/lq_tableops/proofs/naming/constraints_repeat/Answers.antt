@@ -1,6 +1,5 @@
 use Rattle.std.proofs.Common.{ap, ◌∙◌}
-use Rattle.lq_model.specs.Names.{repeats}
-use Rattle.lq_model.specs.TableNames.{constraint_names}
+use Rattle.lq_model.specs.Catalogue.{repeats, constraint_names}
 use Rattle.lq_shapes.specs.Created.{made}
 use Rattle.lq_tableops.proofs.NamingLemmas as lemma
 use Rattle.lq_tableops.proofs.naming.constraints_repeat.Goals as goal

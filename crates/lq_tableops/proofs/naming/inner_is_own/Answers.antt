@@ -1,6 +1,5 @@
 use Rattle.std.proofs.Common.{ap, ◌∙◌}
-use Rattle.lq_model.specs.Names.{is_in}
-use Rattle.lq_model.specs.TableNames.{inner_names, placed}
+use Rattle.lq_model.specs.Catalogue.{is_in, inner_names, placed}
 use Rattle.lq_shapes.specs.Created.{made}
 use Rattle.lq_tableops.proofs.NamingLemmas as lemma
 use Rattle.lq_tableops.proofs.ClashLemmas.{own_inside}

@@ -1,6 +1,6 @@
 use Rattle.std.proofs.Common.{ap, ◌∙◌, ◌∷◌}
-use Rattle.lq_model.specs.Reserved.{takes_lock_key}
-use Rattle.lq_model.specs.TableNames.{inner_names, placed}
+use Rattle.lq_model.specs.NameSpaces.{takes_lock_key}
+use Rattle.lq_model.specs.Catalogue.{inner_names, placed}
 use Rattle.lq_shapes.specs.Created.{made}
 use Rattle.lq_tableops.proofs.NamingLemmas as lemma
 use Rattle.lq_tableops.proofs.naming.names_lock_key.Goals as goal

@@ -1,6 +1,6 @@
 use Rattle.std.proofs.Common.{ap, map, ◌∙◌}
-use Rattle.lq_model.specs.Reserved.{is_reserved}
-use Rattle.lq_model.specs.TableNames.{constraint_names}
+use Rattle.lq_model.specs.NameSpaces.{is_reserved}
+use Rattle.lq_model.specs.Catalogue.{constraint_names}
 use Rattle.lq_shapes.specs.Created.{made}
 use Rattle.lq_tableops.proofs.NamingLemmas as lemma
 use Rattle.lq_tableops.proofs.naming.names_reserved.Goals as goal

@@ -1,8 +1,7 @@
 use Rattle.std.proofs.Common.{ap, ◌∙◌, ◌∷◌}
 use Rattle.std.specs.List.{list_any}
 use Rattle.lq_model.specs.NameSpaces.{shared_names}
-use Rattle.lq_model.specs.Names.{is_in}
-use Rattle.lq_model.specs.TableNames.{inner_names, placed}
+use Rattle.lq_model.specs.Catalogue.{is_in, inner_names, placed}
 use Rattle.lq_shapes.specs.Created.{made}
 use Rattle.lq_tableops.proofs.NamingLemmas as lemma
 use Rattle.lq_tableops.proofs.naming.shared_taken.Goals as goal

@@ -1,5 +1,5 @@
 use Rattle.std.proofs.Common.{◌∙◌, subst, option_copied}
-use Rattle.lq_outside.specs.Sink.{IsPart}
+use Rattle.lq_outside.specs.Forms.{IsPart}
 use Rattle.lq_tell.specs.Texts.{out_text}
 use Rattle.lq_tell.proofs.LogLemmas.{alone_log}
 use Rattle.lq_tell.proofs.SinkLemmas.{part_of_nothing}

@@ -3,7 +3,7 @@ use Rattle.std.specs.Prelude.{IfErr}
 use Rattle.lq_top.proofs.OnFiles.{rose_later}
 use Rattle.lq_top.proofs.OnlyRead.{read_on, read_once}
 use Rattle.lq_top.proofs.copying.copy_of.Goals as goal
-use Rattle.lq_top.specs.Copies.{IsNoCopy}
+use Rattle.lq_top.specs.Bytes.{IsNoCopy}
 
 pub returns-in-Ok-clause-copied : goal.returns-in-Ok-clause-copied
 returns-in-Ok-clause-copied g c = rw c.size.ensures.told at c.copy_sized.ensures.copied

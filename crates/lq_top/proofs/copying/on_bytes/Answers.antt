@@ -9,8 +9,7 @@ use Rattle.lq_top.proofs.DamagedFiles.{copy_load_tells, fails_by, loads_whole}
 use Rattle.lq_top.proofs.OnFiles.{err_is, fault_answers, fault_kind, fault_tells}
 use Rattle.lq_top.proofs.Ready.{is_ready, opened}
 use Rattle.lq_top.proofs.copying.on_bytes.Goals as goal
-use Rattle.lq_top.specs.Bytes.{TellsDamage, given_at, load_status}
-use Rattle.lq_top.specs.Copies.{copy_status, job_of}
+use Rattle.lq_top.specs.Bytes.{TellsDamage, given_at, load_status, copy_status, job_of}
 use Rattle.lq_top.specs.Jobs.{job_calls, job_refusal}
 use Rattle.lq_top.specs.Kinds.{IsOfDatabase}
 

@@ -4,8 +4,7 @@ use Rattle.lq_top.proofs.Copied.{copy_opens, copy_tells, no_copy_answers, no_cop
 use Rattle.lq_top.proofs.CopyRoom.{copy_room}
 use Rattle.lq_top.proofs.DamagedFiles.{copy_damaged, fails_so, no_copy_place}
 use Rattle.lq_top.proofs.copying.on_copy.Goals as goal
-use Rattle.lq_top.specs.Bytes.{given_at}
-use Rattle.lq_top.specs.Copies.{job_of}
+use Rattle.lq_top.specs.Bytes.{given_at, job_of}
 use Rattle.lq_top.specs.Jobs.{job_calls, job_refusal}
 
 pub returns-in-Err-clause-answers : goal.returns-in-Err-clause-answers

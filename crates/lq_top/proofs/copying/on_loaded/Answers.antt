@@ -6,8 +6,7 @@ use Rattle.lq_top.proofs.OnFiles.{memory_kind, memory_no_disk, memory_tells}
 use Rattle.lq_top.proofs.OnReady.{answers_so, printing_plain, ready_kind, ready_tells, tells_so}
 use Rattle.lq_top.proofs.WithClock.{given_dialect, given_is, given_read, given_ready, given_short, given_sql}
 use Rattle.lq_top.proofs.copying.on_loaded.Goals as goal
-use Rattle.lq_top.specs.Bytes.{given_at}
-use Rattle.lq_top.specs.Copies.{job_of}
+use Rattle.lq_top.specs.Bytes.{given_at, job_of}
 use Rattle.lq_top.specs.Jobs.{job_calls, job_refusal}
 
 pub returns-clause-answers : goal.returns-clause-answers

@@ -3,7 +3,7 @@ use Rattle.lq_commands.specs.Outputs.{TellsJob}
 use Rattle.lq_commands.specs.Refusals.{Answers}
 use Rattle.lq_top.proofs.CopyRoom.{RoomOnIts}
 use Rattle.lq_top.proofs.copying.print_on.Goals as goal
-use Rattle.lq_top.specs.Copies.{job_of}
+use Rattle.lq_top.specs.Bytes.{job_of}
 use Rattle.lq_top.specs.Jobs.{job_calls, job_refusal}
 
 pub returns-in-Update-clause-answers : goal.returns-in-Update-clause-answers

@@ -1,7 +1,7 @@
 use Rattle.std.proofs.Common.{rules, subst, sym}
 use Rattle.std.specs.Prelude.{Err, List, false, length, ℕ, ◌≡◌}
 use Rattle.lq_commands.proofs.BareName.{clean_no_bar}
-use Rattle.lq_commands.specs.Who.{clean}
+use Rattle.lq_commands.specs.Stamp.{clean}
 use Rattle.lq_drill.specs.Faults.{is_barred}
 use Rattle.lq_top.proofs.Readings.{unread}
 use Rattle.lq_top.proofs.drilling.cast_of.Goals as goal

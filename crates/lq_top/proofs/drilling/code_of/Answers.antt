@@ -1,6 +1,6 @@
 use Rattle.std.proofs.Common.{ap, refl, ◌∙◌}
 use Rattle.std.specs.Prelude.{None, Option, Some, option_map, ℕ, ◌≡◌}
-use Rattle.lq_playing.specs.Came.{answer_of}
+use Rattle.lq_playing.specs.Answers.{answer_of}
 use Rattle.lq_playing.specs.declared.came.Came.{Came}
 use Rattle.lq_top.specs.Drilled.{answer_code, came_code}
 use Rattle.lq_turns.specs.declared.answer.Answer.{Answer}

@@ -2,7 +2,7 @@ use Rattle.std.proofs.Common.{ap, subst, sym}
 use Rattle.std.specs.Int.{IsInRange}
 use Rattle.std.specs.List.{All}
 use Rattle.std.specs.Prelude.{Err}
-use Rattle.lq_sources.specs.Answers.{map_ok}
+use Rattle.lq_sources.specs.Faults.{map_ok}
 use Rattle.lq_top.proofs.DrillFiles.{finds_fault, mapped_fault}
 use Rattle.lq_top.proofs.drilling.drill_with.Goals as goal
 use Rattle.lq_top.specs.Drilled.{FindsDrill}

@@ -3,9 +3,9 @@ use Rattle.std.proofs.lemmas.List.Elements.{All-append, All-cons, All-nil}
 use Rattle.std.specs.List.{All, remove}
 use Rattle.std.specs.Prelude.{[], length, true, ◌∷◌, ◌≡◌}
 use Rattle.lq_cli.specs.declared.line.Line.{Line}
-use Rattle.lq_lines.specs.Commands.{is_run}
+use Rattle.lq_lines.specs.File.{is_run}
 use Rattle.lq_players.specs.AtOnce.{HasShortTag}
-use Rattle.lq_sources.specs.Answers.{IsTold}
+use Rattle.lq_sources.specs.Faults.{IsTold}
 use Rattle.lq_top.proofs.DrillFiles.{all_removed, behind, one_less, one_read}
 use Rattle.lq_top.proofs.DrillPlayers.{one_longer}
 use Rattle.lq_top.proofs.drilling.entrants_of.Goals as goal

@@ -1,9 +1,9 @@
 use Rattle.std.specs.List.{All}
 use Rattle.std.specs.Prelude.{length, true, ◌+◌, ◌≡◌, ◌≤◌}
 use Rattle.lq_cli.specs.declared.line.Line.{Line}
-use Rattle.lq_lines.specs.Commands.{is_run}
+use Rattle.lq_lines.specs.File.{is_run}
 use Rattle.lq_players.specs.AtOnce.{HasShortTag}
-use Rattle.lq_sources.specs.Answers.{IsTold, Source}
+use Rattle.lq_sources.specs.Faults.{IsTold, Source}
 use Rattle.lq_top.proofs.DrillFiles.{behind}
 use Rattle.lq_top.proofs.drilling.entrants_of.Given as goal
 use Rattle.lq_top.specs.Drilled.{IsEntrant}

@@ -2,7 +2,7 @@ use Rattle.std.proofs.Common.{ap, subst, sym, ◌∙◌}
 use Rattle.std.proofs.lemmas.List.{length-map}
 use Rattle.std.specs.List.{All}
 use Rattle.std.specs.Prelude.{Err, length, ◌≤◌}
-use Rattle.lq_commands.specs.Who.{clean}
+use Rattle.lq_commands.specs.Stamp.{clean}
 use Rattle.lq_session.specs.Session.{begun_in}
 use Rattle.lq_db.specs.Db.{crashes, disk_in, engine_in, state}
 use Rattle.lq_players.specs.AnyCommand.{IsUnstarted}

@@ -1,9 +1,8 @@
 use Rattle.std.proofs.Common.{ap, refl, subst}
 use Rattle.std.specs.Prelude.{Err}
 use Rattle.lq_drill.specs.Drill.{FailsBy}
-use Rattle.lq_players.specs.AnyCommand.{command_stands}
-use Rattle.lq_playing.specs.Came.{as_failed}
-use Rattle.lq_players.specs.Drilling.{works}
+use Rattle.lq_players.specs.AnyCommand.{command_stands, works}
+use Rattle.lq_playing.specs.Answers.{as_failed}
 use Rattle.lq_top.proofs.DrillAnswers.{fault_answers, told_answers}
 use Rattle.lq_top.proofs.DrillPlayed.{disk_fault, fault_full, fault_kind, played_ends, played_kind, tells_no_disk, tells_not_full}
 use Rattle.lq_top.proofs.drilling.play.Goals as goal

@@ -1,7 +1,7 @@
 use Rattle.lq_generate.specs.Faults.{fault_at}
 use Rattle.lq_top.proofs.GeneratedOn.{memory_told, seen_again, seen_answers, seen_tells}
 use Rattle.lq_top.proofs.generating.on_store.Goals as goal
-use Rattle.lq_top.specs.Generates.{state_in}
+use Rattle.lq_top.specs.Bytes.{state_in}
 
 pub look-requires-clause-valid : goal.look-requires-clause-valid
 look-requires-clause-valid g c = record { journal_is = c.requires.loaded.valid.journal_is; lives = λ live. c.requires.loaded.valid }

@@ -1,6 +1,6 @@
 use Rattle.std.proofs.Common.{subst, sym}
 use Rattle.std.specs.Prelude.{IfSome, ◌≤◌}
-use Rattle.lq_base.specs.Character.{char_count}
+use Rattle.lq_base.specs.Number.{char_count}
 use Rattle.lq_base.specs.declared.command.Command.{Command}
 use Rattle.lq_commands.specs.Scripts.{tag_in}
 use Rattle.lq_commands.specs.Stamp.{stamp_of}

@@ -1,6 +1,6 @@
 use Rattle.std.proofs.Common.{Ok, [], subst, ◌≡◌}
-use Rattle.lq_changelog.specs.Changelog.{changelog}
-use Rattle.lq_sources.specs.Answers.{IsTold, Source}
+use Rattle.lq_changelog.specs.Gathers.{changelog}
+use Rattle.lq_sources.specs.Faults.{IsTold, Source}
 use Rattle.lq_tell.specs.SoakLog.{soak_path}
 use Rattle.lq_top.proofs.soak.made_changelog.Goals as goal
 

@@ -6,8 +6,7 @@ use Rattle.lq_top.proofs.SnappedOn.{prints_no_snapshot}
 use Rattle.lq_top.proofs.Unchanged.{printed_does, prints_no_command, prints_no_goal, prints_on_file}
 use Rattle.lq_top.proofs.UndoneOn.{prints_no_undo}
 use Rattle.lq_top.proofs.work.printed.Goals as goal
-use Rattle.lq_top.specs.Bytes.{given_at}
-use Rattle.lq_top.specs.Copies.{job_of}
+use Rattle.lq_top.specs.Bytes.{given_at, job_of}
 use Rattle.lq_top.specs.Jobs.{JobLeaves}
 
 pub returns-clause-worked : goal.returns-clause-worked

@@ -2,11 +2,11 @@ use Rattle.std.proofs.Common.{ap, inl, inr, refl, subst, sym, ◌∙◌}
 use Rattle.std.specs.Prelude.{Err, List, None, Ok, Result, Some, [], false, map, string_bytes, true, ℕ, ◌≡◌}
 use Rattle.lq_cli.specs.declared.line.Job.TheVariants.{Drill, Snapshot, UndoUnrecorded}
 use Rattle.lq_cli.specs.declared.line.Line.{Line}
-use Rattle.lq_commands.specs.Parts.{part_for}
+use Rattle.lq_commands.specs.Rehearsal.{part_for}
 use Rattle.lq_commands.specs.Stamp.{stamp_of}
 use Rattle.lq_commands.specs.Works.{is_finished}
 use Rattle.lq_kinds.specs.declared.change_set.Changelog.{Changelog}
-use Rattle.lq_sources.specs.Answers.{IsTold, Source}
+use Rattle.lq_sources.specs.Faults.{IsTold, Source}
 use Rattle.lq_outside.specs.Crash.{Settled}
 use Rattle.lq_tell.specs.Texts.{status_done}
 use Rattle.lq_tell.specs.declared.done.Done.{Done}

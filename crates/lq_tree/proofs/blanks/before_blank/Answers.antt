@@ -1,6 +1,6 @@
 use Rattle.std.proofs.Common.{None, Some, ap, lit<, refl, sym, ◌∙◌}
 use Rattle.std.proofs.lemmas.Str.Pattern.{strip_suffix_char}
-use Rattle.lq_tree.specs.Blanks.{without_end_blanks}
+use Rattle.lq_tree.specs.Given.{without_end_blanks}
 use Rattle.lq_tree.proofs.BothEnds.{end_dropped, end_kept}
 use Rattle.lq_tree.proofs.blanks.before_blank.Goals as goal
 

@@ -1,6 +1,6 @@
 use Rattle.std.proofs.Common.{length, ◌≡◌}
 use Rattle.std.specs.Str.{IsUtf8}
-use Rattle.lq_tree.specs.Blanks.{without_front_blanks}
+use Rattle.lq_tree.specs.Given.{without_front_blanks}
 use Rattle.lq_tree.proofs.blanks.without_front_blanks.Given as goal
 
 abbrev pub invariant-loop-more : goal.invariant-loop-more

@@ -1,6 +1,6 @@
 use Rattle.std.proofs.Common.{◌≡◌, ◌++◌, drop, length, true}
 use Rattle.std.specs.List.{list_all}
-use Rattle.lq_tree.specs.Found.{map_found}
+use Rattle.lq_tree.specs.Look.{map_found}
 use Rattle.lq_tree.specs.Items.{items_from}
 use Rattle.lq_tree.proofs.items.each_item.Given as goal
 

@@ -1,4 +1,4 @@
-use Rattle.lq_turns.specs.Promised.{meaning}
+use Rattle.lq_turns.specs.Set.{meaning}
 use Rattle.lq_turns.proofs.RunsOn.{runs_on}
 use Rattle.lq_turns.proofs.laws.runs_on.Goals as goal
 

@@ -1,4 +1,4 @@
-use Rattle.lq_turns.specs.Promised.{meaning}
+use Rattle.lq_turns.specs.Set.{meaning}
 use Rattle.lq_turns.proofs.RunsOn.{tag_keeps}
 use Rattle.lq_turns.proofs.laws.tag_keeps.Goals as goal
 

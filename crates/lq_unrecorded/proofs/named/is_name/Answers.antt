@@ -1,6 +1,6 @@
 use Rattle.std.proofs.Common.{◌∙◌, ap, sym}
 use Rattle.std.proofs.lemmas.Map.Text.{is_eq-slice_cmp}
-use Rattle.lq_base.specs.Text.{is_text}
+use Rattle.lq_base.specs.Name.{is_text}
 use Rattle.lq_unrecorded.proofs.named.is_name.Goals as goal
 
 pub returns : goal.returns

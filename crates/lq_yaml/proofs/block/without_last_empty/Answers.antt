@@ -1,5 +1,5 @@
 use Rattle.std.proofs.Common.{rules, arith, ◌≡◌, ◌∙◌, sym, true, false}
-use Rattle.lq_yaml.specs.Chars.{is_nil}
+use Rattle.lq_yaml.specs.Tree.{is_nil}
 use Rattle.lq_yaml.proofs.Trim.{one_less, no_less, none_left}
 use Rattle.lq_yaml.proofs.block.without_last_empty.Goals as goal
 use Rattle.lq_yaml.proofs.block.without_last_empty.Goals.{then-loop-end-test+else-is_nothing, else-loop-end-test}

@@ -1,5 +1,5 @@
 use Rattle.std.proofs.Common.{◌≡◌, ◌≤◌, length, take}
-use Rattle.lq_yaml.specs.Chars.{without_last, is_nil}
+use Rattle.lq_yaml.specs.Tree.{without_last, is_nil}
 use Rattle.lq_yaml.proofs.block.without_last_empty.Given as goal
 
 abbrev pub invariant-loop-end : goal.invariant-loop-end

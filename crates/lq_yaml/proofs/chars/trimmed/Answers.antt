@@ -1,5 +1,5 @@
 use Rattle.std.proofs.Common.{rules, arith, ◌≡◌, ◌∙◌, sym, true, false}
-use Rattle.lq_yaml.specs.Chars.{is_blank}
+use Rattle.lq_yaml.specs.Tree.{is_blank}
 use Rattle.lq_yaml.proofs.Trim.{one_less, no_less, none_left}
 use Rattle.lq_yaml.proofs.chars.trimmed.Goals as goal
 use Rattle.lq_yaml.proofs.chars.trimmed.Goals.{then-loop-end-test+else-is_blank, else-loop-end-test}

@@ -1,5 +1,5 @@
 use Rattle.std.proofs.Common.{◌≡◌, ◌≤◌, length, take}
-use Rattle.lq_yaml.specs.Scan.{trimmed}
+use Rattle.lq_yaml.specs.Line.{trimmed}
 use Rattle.lq_yaml.proofs.chars.trimmed.Given as goal
 
 abbrev pub invariant-loop-end : goal.invariant-loop-end

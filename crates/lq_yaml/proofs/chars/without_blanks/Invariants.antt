@@ -1,5 +1,5 @@
 use Rattle.std.proofs.Common.{◌≡◌, ◌≤◌, length}
-use Rattle.lq_yaml.specs.Scan.{without_blanks}
+use Rattle.lq_yaml.specs.Line.{without_blanks}
 use Rattle.lq_yaml.proofs.chars.without_blanks.Given as goal
 
 abbrev pub invariant-loop-rest : goal.invariant-loop-rest

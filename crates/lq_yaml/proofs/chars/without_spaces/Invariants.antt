@@ -1,5 +1,5 @@
 use Rattle.std.proofs.Common.{◌≡◌, ◌≤◌, length}
-use Rattle.lq_yaml.specs.Scan.{without_spaces}
+use Rattle.lq_yaml.specs.Line.{without_spaces}
 use Rattle.lq_yaml.proofs.chars.without_spaces.Given as goal
 
 abbrev pub invariant-loop-rest : goal.invariant-loop-rest

@@ -1,6 +1,6 @@
 use Rattle.std.proofs.Common.{◌≡◌, ◌+◌, length, option_map}
 use Rattle.lq_yaml.specs.Line.{tokens_at}
-use Rattle.lq_yaml.specs.Shallow.{shallow, enough}
+use Rattle.lq_yaml.specs.Laws.{shallow, enough}
 use Rattle.lq_yaml.proofs.Pushed.{goes_on}
 use Rattle.lq_yaml.proofs.entry.tokens_at.Given as goal
 

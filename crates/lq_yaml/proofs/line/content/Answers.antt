@@ -1,9 +1,8 @@
 use Rattle.std.proofs.Common.{rules, ◌≡◌, false, Some, option_map}
 use Rattle.lq_yaml.specs.declared.line.Line as line
 use Rattle.lq_yaml.specs.declared.mode.Mode.TheVariants.{Between}
-use Rattle.lq_yaml.specs.Follows.{shown_line}
+use Rattle.lq_yaml.specs.Laws.{shown_line, shallow, enough}
 use Rattle.lq_yaml.specs.Line.{parent_of, is_marker, mode_after, content_tokens, tokens_at}
-use Rattle.lq_yaml.specs.Shallow.{shallow, enough}
 use Rattle.lq_yaml.proofs.Dashes.{content_shows, same}
 use Rattle.lq_yaml.proofs.line.content.Goals as goal
 

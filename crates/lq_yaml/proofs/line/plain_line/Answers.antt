@@ -1,6 +1,6 @@
 use Rattle.std.proofs.Common.{rules, ◌≡◌, Some, None}
 use Rattle.lq_yaml.specs.declared.line.Line as line
-use Rattle.lq_yaml.specs.Follows.{shown_line}
+use Rattle.lq_yaml.specs.Laws.{shown_line}
 use Rattle.lq_yaml.specs.Line.{line_by}
 use Rattle.lq_yaml.proofs.Dashes.{same}
 use Rattle.lq_yaml.proofs.line.plain_line.Goals as goal

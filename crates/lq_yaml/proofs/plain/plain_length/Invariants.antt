@@ -1,5 +1,5 @@
 use Rattle.std.proofs.Common.{◌≡◌, ◌+◌, length}
-use Rattle.lq_yaml.specs.Scalar.{plain_length}
+use Rattle.lq_yaml.specs.Line.{plain_length}
 use Rattle.lq_yaml.proofs.plain.plain_length.Given as goal
 
 abbrev pub invariant-loop-rest : goal.invariant-loop-rest

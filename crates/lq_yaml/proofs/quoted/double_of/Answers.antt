@@ -1,6 +1,6 @@
 use Rattle.std.proofs.Common.{rules, ◌≡◌, [], ◌∷◌, Some, None, option_map, ap, ◌∙◌}
-use Rattle.lq_yaml.specs.Scalar.{double, with_front}
-use Rattle.lq_yaml.specs.Follows.{one}
+use Rattle.lq_yaml.specs.Line.{double, with_front}
+use Rattle.lq_yaml.specs.Laws.{one}
 use Rattle.lq_yaml.proofs.Fronts.{front_more, double_one, after}
 use Rattle.lq_yaml.proofs.quoted.double_of.Goals as goal
 

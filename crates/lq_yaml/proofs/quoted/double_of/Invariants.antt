@@ -1,5 +1,5 @@
 use Rattle.std.proofs.Common.{◌≡◌, length, option_map}
-use Rattle.lq_yaml.specs.Scalar.{double, with_front}
+use Rattle.lq_yaml.specs.Line.{double, with_front}
 use Rattle.lq_yaml.proofs.quoted.double_of.Given as goal
 
 abbrev pub invariant-loop-c : goal.invariant-loop-c

@@ -1,5 +1,5 @@
 use Rattle.std.proofs.Common.{◌≡◌, length, option_map}
-use Rattle.lq_yaml.specs.Scalar.{single, with_front}
+use Rattle.lq_yaml.specs.Line.{single, with_front}
 use Rattle.lq_yaml.proofs.quoted.single_of.Given as goal
 
 abbrev pub invariant-loop-rest : goal.invariant-loop-rest

@@ -1,7 +1,6 @@
 use Rattle.std.proofs.Common.{rules, arith, sym, ◌≡◌, length, Some, None, inr}
-use Rattle.lq_yaml.specs.DeepView.{state_of, shown_lines}
+use Rattle.lq_yaml.specs.Yaml.{state_of, shown_lines, text_tree}
 use Rattle.lq_yaml.specs.Machine.{finish}
-use Rattle.lq_yaml.specs.Yaml.{text_tree}
 use Rattle.lq_yaml.proofs.Dashes.{high, low}
 use Rattle.lq_yaml.proofs.Files.{begun_tree, deeper, ended, stepped, stuck}
 use Rattle.lq_yaml.proofs.reading.read_lines.Goals as goal

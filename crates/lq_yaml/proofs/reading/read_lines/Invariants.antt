@@ -1,6 +1,5 @@
 use Rattle.std.proofs.Common.{◌≡◌, ◌+◌, drop}
-use Rattle.lq_yaml.specs.DeepView.{state_of, shown_lines}
-use Rattle.lq_yaml.specs.Yaml.{lines_tree, text_tree}
+use Rattle.lq_yaml.specs.Yaml.{state_of, shown_lines, lines_tree, text_tree}
 use Rattle.lq_yaml.proofs.reading.read_lines.Given as goal
 
 abbrev pub invariant-loop-i : goal.invariant-loop-i

@@ -1,5 +1,5 @@
 use Rattle.std.proofs.Common.{◌≡◌, length}
-use Rattle.lq_model.specs.Row.{by_name}
+use Rattle.lq_model.specs.Catalogue.{by_name}
 use Rattle.tests_disk.proofs.one_table.is_null_at.Given as goal
 
 abbrev pub invariant-loop-column : goal.invariant-loop-column

@@ -1,5 +1,5 @@
 use Rattle.std.proofs.Common.{ap, sym, ◌∙◌}
-use Rattle.lq_store.specs.State.{is_open}
+use Rattle.lq_store.specs.Journal.{is_open}
 use Rattle.tests_players.proofs.alone.by_itself.Goals as goal
 
 pub run_alone-requires-clause-ready : goal.run_alone-requires-clause-ready

@@ -2,7 +2,7 @@ use Rattle.std.proofs.Common.{ap}
 use Rattle.lq_hand.specs.declared.hand.Hand.{Hand}
 use Rattle.lq_run.specs.Ends.{disk_failed}
 use Rattle.lq_run.specs.Steps.{is_over}
-use Rattle.lq_store.specs.State.{is_open}
+use Rattle.lq_store.specs.Journal.{is_open}
 use Rattle.tests_runner.proofs.Sessions.{is_ready}
 use Rattle.tests_runner.proofs.calls.first_step.Goals as goal
 

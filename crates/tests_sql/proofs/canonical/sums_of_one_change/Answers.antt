@@ -1,6 +1,6 @@
 use Rattle.std.proofs.Common.{rules, List, [], ◌∷◌}
 use Rattle.std.specs.Prelude.{codes}
-use Rattle.lq_model.specs.Canon.{atom, CanonicalChange, decimal_digits, no_pairs, numeral, pair, text}
+use Rattle.lq_model.specs.Changes.{atom, CanonicalChange, decimal_digits, no_pairs, numeral, pair, text}
 use Rattle.tests_sql.proofs.canonical.sums_of_one_change.Goals as goal
 
 -- the table `t` is dropped

@@ -2,12 +2,12 @@ use Rattle.std.proofs.Common.{ap, List, ◌++◌}
 use Rattle.std.specs.Prelude.{reverse}
 use Rattle.lq_base.specs.declared.run.Printed.{Printed}
 use Rattle.lq_seen.proofs.Leading.{leads_begin}
-use Rattle.lq_seen.specs.Printing.{shown}
+use Rattle.lq_seen.specs.Telling.{shown}
 use Rattle.lq_back.proofs.RowsBack.{of_dialect}
 use Rattle.lq_back.proofs.Spelled.{turns_back_spelled}
 use Rattle.lq_back.proofs.row_turns.RowTurns.new.Goals as goal
 use Rattle.lq_turns.specs.Printed.{printed_back}
-use Rattle.lq_turns.specs.Rollback.{all_rolled}
+use Rattle.lq_turns.specs.Script.{all_rolled}
 
 pub returns-clause-turns : goal.returns-clause-turns
 returns-clause-turns c = c.in_ok-turns.ensures

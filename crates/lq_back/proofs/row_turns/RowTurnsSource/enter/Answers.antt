@@ -1,11 +1,11 @@
 use Rattle.std.proofs.Common.{ap, if◌then◌else◌, refl, rules, subst, sym, true, ◌∙◌, ◌≡◌, ◌++◌, ◌∷◌, []}
 use Rattle.std.specs.List.{list_all}
 use Rattle.lq_base.specs.declared.dialect.Dialect.{Dialect}
-use Rattle.lq_model.specs.Statement.{is_statement}
+use Rattle.lq_model.specs.Step.{is_statement}
 use Rattle.lq_seen.proofs.Leading.{not_grown}
 use Rattle.lq_back.proofs.RowEntered.{none_left, row_entered, row_lacks, row_written, statements_read, turn_read}
 use Rattle.lq_back.proofs.row_turns.RowTurnsSource.enter.Goals as goal
-use Rattle.lq_back.specs.RowTurns.{printed}
+use Rattle.lq_back.specs.Reversal.{printed}
 
 pub tell-requires : goal.tell-requires
 tell-requires g c = record {

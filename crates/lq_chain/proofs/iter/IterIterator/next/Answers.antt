@@ -1,6 +1,5 @@
 use Rattle.std.proofs.Common.{rules, ◌≡◌, ◌-◌, length, ◌∷◌, Some, None, sym, ap, ◌∙◌, subst, arith}
-use Rattle.lq_links.specs.Nodes.{Linked, first_or, node, rows}
-use Rattle.lq_links.specs.State.{spots_from}
+use Rattle.lq_links.specs.State.{Linked, first_or, node, rows, spots_from}
 use Rattle.lq_chain.proofs.IterLemmas.{stepped}
 use Rattle.lq_chain.proofs.iter.IterIterator.next.Goals as goal
 

@@ -1,7 +1,7 @@
 use Rattle.std.proofs.Common.{ap, ◌∙◌}
 use Rattle.std.specs.Prelude.{List, Option, Some, [], codes, refl, ℕ, ◌++◌, ◌∷◌, ◌≡◌}
-use Rattle.lq_model.specs.Canon.{CanonicalValue, canonical_change, text}
-use Rattle.lq_model.specs.Written.{Row, change_of}
+use Rattle.lq_model.specs.Changes.{CanonicalValue, canonical_change, text}
+use Rattle.lq_model.specs.TakesBack.{Row, change_of}
 use Rattle.lq_columns.proofs.OnOk.{on_ok}
 use Rattle.lq_columns.specs.DefaultKeys.{default_rows}
 use Rattle.lq_columns.proofs.add_default_value.AddDefaultValueChange.canon.Goals as goal

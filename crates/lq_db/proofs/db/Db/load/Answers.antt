@@ -1,5 +1,5 @@
 use Rattle.std.proofs.Common.{◌∙◌, refl, sym, ap, drop}
-use Rattle.lq_frames.specs.Journal.{has_state}
+use Rattle.lq_frames.specs.Body.{has_state}
 use Rattle.lq_journal.specs.State.{dialect_of, limit_of, disk_of}
 use Rattle.lq_db.proofs.Loaded.{db_fault, raised_catalogue, raised_clean, raised_held, undamaged}
 use Rattle.lq_db.proofs.Lasts.{loaded_last}

@@ -4,7 +4,7 @@ use Rattle.lq_base.specs.Name.{name_cmp}
 use Rattle.lq_base.specs.declared.name.Name.{Name}
 use Rattle.lq_engine.proofs.NameLemmas.{names_rise}
 use Rattle.lq_engine.proofs.engine.Engine.names.Goals as goal
-use Rattle.lq_engine.specs.Names.{names_of}
+use Rattle.lq_engine.specs.State.{names_of}
 use Rattle.lq_model.specs.Catalogue.{Catalogue}
 
 pub returns-clause-names : goal.returns-clause-names

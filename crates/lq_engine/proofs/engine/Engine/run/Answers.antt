@@ -1,11 +1,9 @@
 use Rattle.std.proofs.Common.{Ok, reverse, subst, sym, true, ◌≡◌}
 use Rattle.lq_chain.specs.History.{marked}
-use Rattle.lq_model.specs.Step.{step}
+use Rattle.lq_model.specs.Step.{step, is_statement}
 use Rattle.lq_model.proofs.KeepsSound.{statement_keeps}
-use Rattle.lq_rows.specs.Answers.{Continues}
-use Rattle.lq_model.specs.Statement.{is_statement}
+use Rattle.lq_rows.specs.Stored.{Continues, Carries}
 use Rattle.lq_engine.specs.State.{State}
-use Rattle.lq_rows.specs.Answers.{Carries}
 use Rattle.lq_engine.proofs.Marks as lemma
 use Rattle.lq_engine.proofs.engine.Engine.run.Goals as goal
 

@@ -1,6 +1,5 @@
 use Rattle.std.proofs.Common.{ap, reverse, rules, subst, sym, ◌++◌, ◌∙◌, ◌≡◌, ◌∷◌, []}
-use Rattle.lq_engine.specs.Marks.{IsGood, stands_for}
-use Rattle.lq_engine.specs.State.{back}
+use Rattle.lq_engine.specs.State.{IsGood, stands_for, back}
 use Rattle.lq_engine.proofs.Marks as lemma
 use Rattle.lq_engine.proofs.engine.Engine.undo_last.Goals as goal
 

@@ -3,8 +3,8 @@ use Rattle.lq_engine.proofs.Marks.{is_sound}
 use Rattle.lq_engine.proofs.Sources.{views_stand}
 use Rattle.lq_engine.proofs.look.EngineLook.ask.Goals as goal
 use Rattle.lq_engine.specs.State.{State}
-use Rattle.lq_model.specs.Look.{IsAnswer}
-use Rattle.lq_model.specs.Query.{answer}
+use Rattle.lq_model.specs.Catalogue.{IsAnswer}
+use Rattle.lq_model.specs.Views.{answer}
 
 pub source_at-requires : goal.source_at-requires
 source_at-requires c = views_stand c.self.inside.dialect c.self.inside.parts.now (is_sound c.self.inside.dialect c.self.inside.parts (reverse c.self.inside.starts.items) c.self.invariant)

@@ -1,8 +1,7 @@
 use Rattle.std.proofs.Common.{rules, ◌≡◌, ◌∙◌, ap, arith, [], ◌∷◌, ◌++◌, length, drop}
 use Rattle.std.proofs.lemmas.Str.{is_utf8-from_IsUtf8}
 use Rattle.lq_frames.specs.declared.entry.Body.TheVariants.{Texts}
-use Rattle.lq_frames.specs.Body.{entry_of}
-use Rattle.lq_frames.specs.Entry.{texts_by}
+use Rattle.lq_frames.specs.Body.{entry_of, texts_by}
 use Rattle.lq_frames.proofs.Texts.{entry_of-length, pushed}
 use Rattle.lq_frames.proofs.encoded.EncodedEntry.push.Goals as goal
 

@@ -1,6 +1,5 @@
 use Rattle.std.proofs.Common.{ap, arith, refl, rules, ◌∙◌}
-use Rattle.lq_hand.specs.Counts.{no_progress}
-use Rattle.lq_hand.specs.Way.{refused_in, sights}
+use Rattle.lq_hand.specs.Way.{no_progress, refused_in, sights}
 use Rattle.lq_hand.proofs.Counted.{few_statements, turn_refused}
 use Rattle.lq_hand.proofs.Sighted.{turn_seen}
 use Rattle.lq_hand.proofs.InHand.{in_hand}

@@ -1,6 +1,5 @@
 use Rattle.std.proofs.Common.{◌+◌, ◌≤◌, arith, subst, sym, IfSome}
-use Rattle.lq_frames.specs.Body.{size_of}
-use Rattle.lq_frames.specs.State.{Stands}
+use Rattle.lq_frames.specs.Body.{size_of, Stands}
 use Rattle.lq_journal.proofs.Opened.{ready_stands}
 use Rattle.lq_journal.proofs.journal.Journal.write_entry.Goals as goal
 

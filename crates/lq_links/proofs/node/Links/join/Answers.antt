@@ -1,6 +1,5 @@
 use Rattle.std.proofs.Common.{sym, subst}
-use Rattle.lq_links.specs.Nodes.{IsThereIf}
-use Rattle.lq_links.specs.State.{State, state_of}
+use Rattle.lq_links.specs.State.{IsThereIf, State, state_of}
 use Rattle.lq_links.proofs.GapLemmas.{there_if_on}
 use Rattle.lq_links.proofs.node.Links.join.Goals as goal
 

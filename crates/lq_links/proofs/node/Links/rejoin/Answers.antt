@@ -1,6 +1,5 @@
 use Rattle.std.proofs.Common.{sym, subst}
-use Rattle.lq_links.specs.Nodes.{IsThereIf}
-use Rattle.lq_links.specs.State.{State, state_of}
+use Rattle.lq_links.specs.State.{IsThereIf, State, state_of}
 use Rattle.lq_links.proofs.GapLemmas.{there_if_back}
 use Rattle.lq_links.proofs.node.Links.rejoin.Goals as goal
 

@@ -25,7 +25,7 @@ use denote.Triple.Walked.{Stays, stay_dropped, walk_of, Goes-dropped}
 use Rattle.std_alloc.proofs.VecSteps.Shapes.{after}
 use Rattle.std_alloc.proofs.RcSteps.{word-Good}
 use Rattle.std.proofs.raw_atomic.Walks.{proved, leaves}
-use Rattle.lq_nodes.specs.Slots.{IsAt, without_node, with_node}
+use Rattle.lq_nodes.specs.Slots.{IsAt, without_node, with_node, with_at}
 use Rattle.lq_nodes.specs.Ownership.{slots_own}
 use Rattle.std_alloc.specs.Box.Ownership.{box_owns}
 use Rattle.lq_nodes.proofs.Memory.{word, place_told, one_node, slot_cut, slot_glue}
@@ -48,7 +48,6 @@ use denote.Follow.{follows, Part, lends_Part}
 use denote.Triple.Walked.{Goes-spent_ref}
 use mir.Raw.{raw as bare}
 use denote.Memory.{lone}
-use Rattle.lq_nodes.specs.Lends.{with_at}
 
 pub at_mut_spec : {M : Type 1} → statement M
 unfolding part_of

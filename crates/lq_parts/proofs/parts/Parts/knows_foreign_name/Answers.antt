@@ -1,8 +1,7 @@
 use Rattle.std.proofs.Common.{subst}
 use Rattle.std.specs.Prelude.{IfSome, ◌≡◌}
 use Rattle.lq_chain.specs.History.{History}
-use Rattle.lq_model.specs.Catalogue.{Catalogue}
-use Rattle.lq_model.specs.Names.{is_in}
+use Rattle.lq_model.specs.Catalogue.{Catalogue, is_in}
 use Rattle.lq_parts.specs.Taken.{foreign_inside, names_in}
 use Rattle.lq_parts.proofs.parts.Parts.knows_foreign_name.Goals as goal
 

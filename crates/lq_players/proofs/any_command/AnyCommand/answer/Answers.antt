@@ -6,7 +6,7 @@ use Rattle.lq_players.specs.AtOnce.{once_reports}
 use Rattle.lq_players.specs.RollingBack.{back_reports}
 use Rattle.lq_players.specs.Syncing.{sync_reports}
 use Rattle.lq_players.specs.Updating.{update_reports}
-use Rattle.lq_playing.specs.Came.{answer_of}
+use Rattle.lq_playing.specs.Answers.{answer_of}
 use Rattle.lq_players.proofs.any_command.AnyCommand.answer.Goals as goal
 
 pub returns-in-AtOnce : goal.returns-in-AtOnce

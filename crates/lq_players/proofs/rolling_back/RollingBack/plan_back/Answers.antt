@@ -5,11 +5,10 @@ use Rattle.lq_back.specs.declared.reversal.TakenBack.{TakenBack}
 use Rattle.lq_back.specs.declared.row_turns.RowTurns.{RowTurns}
 use Rattle.lq_players.proofs.BackPlanned.{lack_only, missing_is_refusal, missing_passes, ok_at, passes_back, turns_there, way_passes}
 use Rattle.lq_players.proofs.RowsRead.{err_so}
-use Rattle.lq_players.specs.RollingBack.{turns_in}
-use Rattle.lq_players.specs.RowChecks.{IsRefusal}
+use Rattle.lq_players.specs.RollingBack.{turns_in, IsRefusal}
 use Rattle.lq_expr.specs.declared.options.Options.{Options}
 use Rattle.lq_seen.specs.View.{any_meaning, view_log, views}
-use Rattle.lq_turns.specs.Rollback.{undo_turns}
+use Rattle.lq_turns.specs.Script.{undo_turns}
 use Rattle.lq_players.proofs.rolling_back.RollingBack.plan_back.Goals as goal
 
 -- no row has the tag

@@ -1,7 +1,7 @@
 use Rattle.std.proofs.Common.{rules}
 use Rattle.lq_players.proofs.BackPlanned.{plans_invalid, plans_on}
 use Rattle.lq_players.proofs.RowsRead.{err_so}
-use Rattle.lq_players.specs.RowChecks.{IsRefusal}
+use Rattle.lq_players.specs.RollingBack.{IsRefusal}
 use Rattle.lq_players.proofs.rolling_back.RollingBack.plan_on.Goals as goal
 
 pub returns-in_err-check_faults-clause-plans : goal.returns-in_err-check_faults-clause-plans

@@ -3,7 +3,7 @@ use Rattle.std.specs.Prelude.{Option}
 use Rattle.lq_back.specs.declared.row_turns.RowTurns.{RowTurns}
 use Rattle.lq_players.proofs.Results.{ok_map}
 use Rattle.lq_players.specs.RollingBack.{back_reports, turns_end}
-use Rattle.lq_playing.specs.Came.{came}
+use Rattle.lq_playing.specs.Answers.{came}
 use Rattle.lq_players.proofs.rolling_back.RollingBackChecks.answer.Goals as goal
 
 pub returns-in-Some-clause-ends : goal.returns-in-Some-clause-ends

@@ -1,7 +1,7 @@
 use Rattle.std.proofs.Common.{ap}
 use Rattle.lq_players.proofs.Results.{ok_map}
 use Rattle.lq_players.specs.Syncing.{sync_reports}
-use Rattle.lq_playing.specs.Came.{came}
+use Rattle.lq_playing.specs.Answers.{came}
 use Rattle.lq_players.proofs.syncing.SyncingChecks.answer.Goals as goal
 
 pub returns-clause-ends : goal.returns-clause-ends

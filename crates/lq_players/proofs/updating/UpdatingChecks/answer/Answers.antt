@@ -1,7 +1,7 @@
 use Rattle.std.proofs.Common.{ap, sym}
 use Rattle.lq_players.proofs.UpdateMakes.{ends_so}
 use Rattle.lq_players.specs.Updating.{ends_in, update_reports}
-use Rattle.lq_playing.specs.Came.{came}
+use Rattle.lq_playing.specs.Answers.{came}
 use Rattle.lq_players.proofs.updating.UpdatingChecks.answer.Goals as goal
 
 pub returns-in-Some-clause-ends : goal.returns-in-Some-clause-ends

@@ -1,7 +1,7 @@
 use Rattle.std.proofs.Common.{rules, subst, sym}
 use Rattle.std.specs.Prelude.{IfSome, None, Some, ◌≡◌}
 use Rattle.lq_players.proofs.UpdateMakes.{asked_for, stays_for, takes_turns}
-use Rattle.lq_players.specs.UpdateChecks.{IsAskedFor}
+use Rattle.lq_players.specs.Updating.{IsAskedFor}
 use Rattle.lq_players.proofs.updating.UpdatingChecks.check.Goals as goal
 
 pub plan-planned-requires : goal.plan-planned-requires

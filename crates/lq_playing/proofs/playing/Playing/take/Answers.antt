@@ -2,7 +2,7 @@ use Rattle.std.proofs.Common.{ap, refl, subst, sym, ◌∙◌}
 use Rattle.std.specs.Prelude.{Err}
 use Rattle.lq_playing.proofs.Told.{err_is, fault_beside, the_disk}
 use Rattle.lq_playing.specs.Answers.{fault_of, is_disk_answer}
-use Rattle.lq_playing.specs.Judged.{Begins}
+use Rattle.lq_playing.specs.Checked.{Begins}
 use Rattle.lq_run.specs.Beside.{Beside}
 use Rattle.lq_playing.proofs.playing.Playing.take.Goals as goal
 

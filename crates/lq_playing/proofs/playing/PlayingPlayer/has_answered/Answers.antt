@@ -1,6 +1,6 @@
 use Rattle.std.proofs.Common.{◌∙◌}
 use Rattle.lq_playing.proofs.Told.{some_came}
-use Rattle.lq_playing.specs.Came.{came}
+use Rattle.lq_playing.specs.Answers.{came}
 use Rattle.lq_playing.proofs.playing.PlayingPlayer.has_answered.Goals as goal
 
 pub returns : goal.returns

@@ -1,5 +1,5 @@
 use Rattle.lq_playing.proofs.Told.{none_came}
-use Rattle.lq_playing.specs.Came.{came}
+use Rattle.lq_playing.specs.Answers.{came}
 use Rattle.lq_playing.proofs.playing.PlayingPlayer.step.Goals as goal
 
 pub play-requires-clause-going : goal.play-requires-clause-going

@@ -1,5 +1,5 @@
 use Rattle.std.proofs.Common.{length}
-use Rattle.lq_props.specs.Values.{value_in, value_in_file}
+use Rattle.lq_props.specs.Replaced.{value_in, value_in_file}
 use Rattle.lq_props.proofs.Lengths.{outside, still_none, still_none_in}
 use Rattle.lq_props.proofs.props.Props.define.Goals as goal
 

@@ -1,8 +1,7 @@
 use Rattle.std.proofs.Common.{List, rules, subst, ◌≡◌, ◌++◌, ◌∷◌, []}
 use Rattle.lq_base.specs.declared.value.Value.{Value}
 use Rattle.lq_chain.specs.History.{changed}
-use Rattle.lq_rows.specs.Print.{ArePrints}
-use Rattle.lq_rows.specs.Seen.{AllShow}
+use Rattle.lq_rows.specs.Stored.{ArePrints, AllShow}
 use Rattle.lq_rows.proofs.SeenLemmas.{kept_up}
 use Rattle.lq_rows.proofs.held.Held.append.Goals as goal
 

@@ -2,19 +2,15 @@ use Rattle.lq_hand.specs.Way.{IsUnderWay}
 use Rattle.lq_hand.specs.declared.hand.Hand.{Hand}
 use Rattle.lq_model.specs.declared.fault.StoreFault.TheVariants as fault
 use Rattle.lq_run.proofs.UnderWay.{stays_failed, stays_lacked, stays_on}
-use Rattle.lq_run.specs.UnderWay.{StaysShown}
+use Rattle.lq_run.specs.Steps.{StaysShown, StepsShown, standing, stopped_by, turns_of}
 use Rattle.std.proofs.Common.{ap, refl, subst, sym, ◌∙◌}
-use Rattle.std.specs.Prelude.{IsTrue, Some, is_some, true, ◌≡◌}
+use Rattle.std.specs.Prelude.{IsTrue, Some, is_some, true, ◌≡◌, false}
 use Rattle.lq_run.proofs.Stepping.{lack_crash, steps_failed, steps_lacked, steps_on, steps_refused}
-use Rattle.lq_run.specs.Steps.{StepsShown, standing, stopped_by, turns_of}
-use Rattle.lq_store.specs.State.{is_open}
+use Rattle.lq_store.specs.Journal.{is_open}
 use Rattle.lq_run.proofs.Beside.{failed_beside, set_back, set_failed, set_inside, set_none}
 use Rattle.lq_hand.specs.Hand.{calls_left}
-use Rattle.lq_run.specs.Beside.{Beside}
-use Rattle.lq_run.specs.Faults.{is_disk_step}
-use Rattle.std.specs.Prelude.{false}
+use Rattle.lq_run.specs.Beside.{Beside, is_disk_step, StopsAs}
 use Rattle.lq_run.proofs.Since.{keeps_then}
-use Rattle.lq_run.specs.Faults.{StopsAs}
 use Rattle.lq_run.proofs.runner.Runner.advance.Goals as goal
 
 pub returns-in-On-clause-steps : goal.returns-in-On-clause-steps

@@ -2,12 +2,12 @@ use Rattle.lq_run.proofs.UnderWay.{lost_stays}
 use Rattle.std.proofs.Common.{inl, inr, refl, sym, ◌∙◌}
 use Rattle.lq_run.proofs.Counting.{not_true}
 use Rattle.lq_run.proofs.Losing.{lost_steps, told_at}
-use Rattle.lq_run.specs.Holds.{IsBare, IsMarked}
+use Rattle.lq_run.specs.Stands.{IsBare, IsMarked}
 use Rattle.lq_run.specs.Steps.{TellsLock, standing}
 use Rattle.lq_run.proofs.Since.{leave_none}
 use Rattle.lq_run.proofs.Beside.{stays_as}
-use Rattle.lq_run.specs.Faults.{is_disk_step}
-use Rattle.lq_store.specs.Crashes.{Keeps}
+use Rattle.lq_run.specs.Beside.{is_disk_step}
+use Rattle.lq_store.specs.Journal.{Keeps}
 use Rattle.lq_run.proofs.runner.Runner.between.Goals as goal
 
 pub returns-in-Bare-clause-lost : goal.returns-in-Bare-clause-lost

@@ -4,7 +4,7 @@ use Rattle.lq_run.proofs.Stepping.{closes}
 use Rattle.lq_run.specs.Steps.{Closes, last_end}
 use Rattle.lq_run.proofs.Beside.{ended_beside, fault_beside}
 use Rattle.lq_run.proofs.Stops.{fault_stops, last_stops}
-use Rattle.lq_run.specs.Faults.{StopsAs}
+use Rattle.lq_run.specs.Beside.{StopsAs}
 use Rattle.lq_run.specs.declared.runner.Step.TheVariants as step
 use Rattle.lq_run.proofs.runner.Runner.close.Goals as goal
 

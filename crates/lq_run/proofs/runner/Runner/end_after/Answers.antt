@@ -5,9 +5,9 @@ use Rattle.lq_run.proofs.Since.{leave_none}
 use Rattle.std.specs.Prelude.{Some}
 use Rattle.lq_run.proofs.Beside.{fault_stays}
 use Rattle.lq_run.proofs.Stops.{fault_stops}
-use Rattle.lq_run.specs.Faults.{StopsAs}
+use Rattle.lq_run.specs.Beside.{StopsAs}
 use Rattle.lq_run.specs.declared.runner.Step.TheVariants as step
-use Rattle.lq_store.specs.Crashes.{Keeps}
+use Rattle.lq_store.specs.Journal.{Keeps}
 use Rattle.lq_run.proofs.runner.Runner.end_after.Goals as goal
 
 pub returns-then-is_marked-clause-ends : goal.returns-then-is_marked-clause-ends

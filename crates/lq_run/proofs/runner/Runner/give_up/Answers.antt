@@ -4,7 +4,7 @@ use Rattle.lq_run.proofs.UnderWay.{back_under}
 use Rattle.lq_run.proofs.Stepping.{back_crash, not_between, steps_back}
 use Rattle.lq_run.specs.Steps.{standing}
 use Rattle.lq_run.proofs.Beside.{set_none}
-use Rattle.lq_store.specs.State.{is_open}
+use Rattle.lq_store.specs.Journal.{is_open}
 use Rattle.lq_run.proofs.runner.Runner.give_up.Goals as goal
 
 pub returns-clause-steps : goal.returns-clause-steps

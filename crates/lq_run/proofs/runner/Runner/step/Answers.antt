@@ -1,6 +1,6 @@
 use Rattle.lq_run.proofs.Stepping.{ready_giving_up, ready_inside}
 use Rattle.lq_run.specs.Steps.{standing, turns_of}
-use Rattle.lq_store.specs.State.{is_open}
+use Rattle.lq_store.specs.Journal.{is_open}
 use Rattle.lq_run.proofs.runner.Runner.step.Goals as goal
 
 pub go_on-requires-clause-turns : goal.go_on-requires-clause-turns

@@ -2,7 +2,7 @@ use Rattle.std.proofs.Common.{ap, arith, List, refl, reverse, subst, sym, â—Œ++â
 use Rattle.lq_base.specs.declared.run.Printed.{Printed}
 use Rattle.lq_sets.specs.SetTurns.{ArePlanned}
 use Rattle.lq_seen.proofs.Leading.{leads_begin}
-use Rattle.lq_seen.specs.Printing.{shown}
+use Rattle.lq_seen.specs.Telling.{shown}
 use Rattle.lq_seen.specs.View.{any_meaning, views}
 use Rattle.lq_turns.specs.Printed.{printed}
 use Rattle.lq_turns.specs.Settle.{all_settled}

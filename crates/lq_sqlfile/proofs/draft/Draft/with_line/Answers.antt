@@ -2,7 +2,7 @@ use Rattle.std.proofs.Common.{rules, ◌≡◌, [], ◌∷◌, ◌++◌, false, 
 use Rattle.std.proofs.lemmas.Slice.Eq.{bytes_eq-Decides}
 use Rattle.std.specs.List.{list_all}
 use Rattle.lq_base.specs.Kind.{is_blank}
-use Rattle.lq_sqlfile.specs.Machine.{with_line}
+use Rattle.lq_sqlfile.specs.File.{with_line}
 use Rattle.lq_sqlfile.proofs.draft.Draft.with_line.Goals as goal
 
 pub returns-then-eq : goal.returns-then-eq

@@ -1,6 +1,6 @@
 use Rattle.std.proofs.Common.{subst, true, ◌++◌, ◌≡◌}
-use Rattle.lq_codec.specs.Database.{catalogue_codec}
-use Rattle.lq_codec.specs.Limits.{OnTrue}
+use Rattle.lq_codec.specs.Tables.{catalogue_codec}
+use Rattle.lq_codec.specs.State.{OnTrue}
 use Rattle.lq_model.specs.Catalogue.{Catalogue}
 use Rattle.lq_state.proofs.ShapedLemmas.{state_fits, state_written}
 use Rattle.lq_state.proofs.state.StateCoded.write.Goals as goal

@@ -2,8 +2,8 @@ use Rattle.std.proofs.Common.{◌≡◌, ◌++◌, ◌∷◌, [], OnOk, refl, su
 use Rattle.std.specs.Option.{option_map}
 use Rattle.std.specs.Prelude.{Option, Some, codes}
 use Rattle.lq_base.specs.declared.kind.Kind.{Kind}
-use Rattle.lq_model.specs.Canon.{CanonicalValue, canonical_pairs, kind_value, map_of, text}
-use Rattle.lq_model.specs.Written.{Row, pairs_of}
+use Rattle.lq_model.specs.Changes.{CanonicalValue, canonical_pairs, kind_value, map_of, text}
+use Rattle.lq_model.specs.TakesBack.{Row, pairs_of}
 use Rattle.lq_tables.specs.AddColumn.{constraints_rows}
 use Rattle.lq_tables.specs.declared.add_column.AddedConstraints.{AddedConstraints}
 use Rattle.lq_tables.proofs.add_column.AddedColumnWritten.write.Goals as goal

@@ -1,8 +1,8 @@
 use Rattle.std.proofs.Common.{ap, rules, ◌∙◌}
 use Rattle.std.proofs.lemmas.Int.{to_z-of_z}
 use Rattle.std.specs.Prelude.{List, Option, Some, [], codes, refl, ℕ, ◌++◌, ◌∷◌, ◌≡◌}
-use Rattle.lq_model.specs.Canon.{CanonicalValue, canonical_change, text}
-use Rattle.lq_model.specs.Written.{Row, change_of}
+use Rattle.lq_model.specs.Changes.{CanonicalValue, canonical_change, text}
+use Rattle.lq_model.specs.TakesBack.{Row, change_of}
 use Rattle.lq_views.proofs.OnOk.{on_ok}
 use Rattle.lq_views.proofs.create_sequence.CreateSequenceChange.canon.Goals as goal
 use mir.Syntax.{w128}

@@ -1,6 +1,6 @@
 use Rattle.std.proofs.Common.{◌≡◌}
-use Rattle.lq_yaml.specs.Deep.{deep_run}
-use Rattle.lq_yaml.specs.DeepView.{deep_of}
+use Rattle.lq_yaml.specs.Machine.{deep_run}
+use Rattle.lq_yaml.specs.Yaml.{deep_of}
 use Rattle.lq_yaml.proofs.builder.Builder.take_all.Given as goal
 
 abbrev pub invariant-loop-token : goal.invariant-loop-token

@@ -1,7 +1,7 @@
 use Rattle.std.proofs.Common.{rules, chars, Some}
-use Rattle.lq_yaml.specs.DeepView.{state_of}
+use Rattle.lq_yaml.specs.Yaml.{state_of}
 use Rattle.lq_yaml.specs.Line.{line_tokens}
-use Rattle.lq_yaml.specs.Shallow.{Shows}
+use Rattle.lq_yaml.specs.Laws.{Shows}
 use Rattle.lq_yaml.proofs.Dashes.{entered_ok}
 use Rattle.lq_yaml.proofs.reading.Reader.take_line.Goals as goal
 
