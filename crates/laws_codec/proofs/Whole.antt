@@ -27,7 +27,6 @@ use Rattle.lq_codec.specs.Codec.{Codec, IsCodec, after, always, both, counted, m
 use Rattle.lq_codec.specs.Words.{any_byte, below, byte, count, digits, is_below, name, number, small_number, text, truth, width}
 use Rattle.lq_codec.specs.Tables as dd
 use Rattle.lq_codec.specs.Queries as dq
-use Rattle.lq_codec.specs.Tables as dt
 use Rattle.lq_codec.specs.Values as dv
 use Rattle.lq_codec.proofs.Laws.{and_left, is_after, is_both, is_counted, is_each, is_mapped, is_nothing, is_one, is_only_if, is_optional, is_variant, some_is}
 use Rattle.lq_codec.proofs.Numbers.{is_below_codec, is_byte, is_count, is_digits, is_name_codec, is_number, is_small, is_text, is_truth, is_width}
@@ -566,56 +565,56 @@ is_whole_test = is_test_codec 65
 pub is_names : IsCodec dq.names
 is_names = is_counted name is_name_codec count is_count
 
-there_column_codec : (x : Column) (b : Name × (Kind × (Bool × (Option Value × Bool)))) → dt.of_column x ≡ Some b → dt.as_column b ≡ x
-there_column_codec x b is = ap dt.as_column (sym (some_is (x.name, (x.kind, (x.nullable, (x.default, x.numbered)))) b is))
+there_column_codec : (x : Column) (b : Name × (Kind × (Bool × (Option Value × Bool)))) → dd.of_column x ≡ Some b → dd.as_column b ≡ x
+there_column_codec x b is = ap dd.as_column (sym (some_is (x.name, (x.kind, (x.nullable, (x.default, x.numbered)))) b is))
 
-pub is_column_codec : IsCodec dt.column_codec
-unfolding dt.column_codec
-is_column_codec = is_mapped dt.as_column dt.of_column (both name (both dv.kind_codec (both truth (both (optional dv.value_codec) truth)))) there_column_codec (λ b ok. refl) (is_both name (both dv.kind_codec (both truth (both (optional dv.value_codec) truth))) is_name_codec (is_both dv.kind_codec (both truth (both (optional dv.value_codec) truth)) is_kind_codec (is_both truth (both (optional dv.value_codec) truth) is_truth (is_both (optional dv.value_codec) truth (is_optional dv.value_codec is_value_codec) is_truth))))
+pub is_column_codec : IsCodec dd.column_codec
+unfolding dd.column_codec
+is_column_codec = is_mapped dd.as_column dd.of_column (both name (both dv.kind_codec (both truth (both (optional dv.value_codec) truth)))) there_column_codec (λ b ok. refl) (is_both name (both dv.kind_codec (both truth (both (optional dv.value_codec) truth))) is_name_codec (is_both dv.kind_codec (both truth (both (optional dv.value_codec) truth)) is_kind_codec (is_both truth (both (optional dv.value_codec) truth) is_truth (is_both (optional dv.value_codec) truth (is_optional dv.value_codec is_value_codec) is_truth))))
 
-there_key_codec : (x : Key) (b : Name × List Name) → dt.of_key x ≡ Some b → dt.as_key b ≡ x
-there_key_codec x b is = ap dt.as_key (sym (some_is (x.name, x.columns) b is))
+there_key_codec : (x : Key) (b : Name × List Name) → dd.of_key x ≡ Some b → dd.as_key b ≡ x
+there_key_codec x b is = ap dd.as_key (sym (some_is (x.name, x.columns) b is))
 
-pub is_key_codec : IsCodec dt.key_codec
-unfolding dt.key_codec
-is_key_codec = is_mapped dt.as_key dt.of_key (both name dq.names) there_key_codec (λ b ok. refl) (is_both name dq.names is_name_codec is_names)
+pub is_key_codec : IsCodec dd.key_codec
+unfolding dd.key_codec
+is_key_codec = is_mapped dd.as_key dd.of_key (both name dq.names) there_key_codec (λ b ok. refl) (is_both name dq.names is_name_codec is_names)
 
-there_unique_codec : (x : Unique) (b : Name × List Name) → dt.of_unique x ≡ Some b → dt.as_unique b ≡ x
-there_unique_codec x b is = ap dt.as_unique (sym (some_is (x.name, x.columns) b is))
+there_unique_codec : (x : Unique) (b : Name × List Name) → dd.of_unique x ≡ Some b → dd.as_unique b ≡ x
+there_unique_codec x b is = ap dd.as_unique (sym (some_is (x.name, x.columns) b is))
 
-pub is_unique_codec : IsCodec dt.unique_codec
-unfolding dt.unique_codec
-is_unique_codec = is_mapped dt.as_unique dt.of_unique (both name dq.names) there_unique_codec (λ b ok. refl) (is_both name dq.names is_name_codec is_names)
+pub is_unique_codec : IsCodec dd.unique_codec
+unfolding dd.unique_codec
+is_unique_codec = is_mapped dd.as_unique dd.of_unique (both name dq.names) there_unique_codec (λ b ok. refl) (is_both name dq.names is_name_codec is_names)
 
-there_foreign_codec : (x : ForeignKey) (b : Name × (List Name × (Name × (List Name × Bool)))) → dt.of_foreign x ≡ Some b → dt.as_foreign b ≡ x
-there_foreign_codec x b is = ap dt.as_foreign (sym (some_is (x.name, (x.columns, (x.table, (x.targets, x.cascade)))) b is))
+there_foreign_codec : (x : ForeignKey) (b : Name × (List Name × (Name × (List Name × Bool)))) → dd.of_foreign x ≡ Some b → dd.as_foreign b ≡ x
+there_foreign_codec x b is = ap dd.as_foreign (sym (some_is (x.name, (x.columns, (x.table, (x.targets, x.cascade)))) b is))
 
-pub is_foreign_codec : IsCodec dt.foreign_codec
-unfolding dt.foreign_codec
-is_foreign_codec = is_mapped dt.as_foreign dt.of_foreign (both name (both dq.names (both name (both dq.names truth)))) there_foreign_codec (λ b ok. refl) (is_both name (both dq.names (both name (both dq.names truth))) is_name_codec (is_both dq.names (both name (both dq.names truth)) is_names (is_both name (both dq.names truth) is_name_codec (is_both dq.names truth is_names is_truth))))
+pub is_foreign_codec : IsCodec dd.foreign_codec
+unfolding dd.foreign_codec
+is_foreign_codec = is_mapped dd.as_foreign dd.of_foreign (both name (both dq.names (both name (both dq.names truth)))) there_foreign_codec (λ b ok. refl) (is_both name (both dq.names (both name (both dq.names truth))) is_name_codec (is_both dq.names (both name (both dq.names truth)) is_names (is_both name (both dq.names truth) is_name_codec (is_both dq.names truth is_names is_truth))))
 
-there_index_codec : (x : Index) (b : Name × (List Name × Bool)) → dt.of_index x ≡ Some b → dt.as_index b ≡ x
-there_index_codec x b is = ap dt.as_index (sym (some_is (x.name, (x.columns, x.unique)) b is))
+there_index_codec : (x : Index) (b : Name × (List Name × Bool)) → dd.of_index x ≡ Some b → dd.as_index b ≡ x
+there_index_codec x b is = ap dd.as_index (sym (some_is (x.name, (x.columns, x.unique)) b is))
 
-pub is_index_codec : IsCodec dt.index_codec
-unfolding dt.index_codec
-is_index_codec = is_mapped dt.as_index dt.of_index (both name (both dq.names truth)) there_index_codec (λ b ok. refl) (is_both name (both dq.names truth) is_name_codec (is_both dq.names truth is_names is_truth))
+pub is_index_codec : IsCodec dd.index_codec
+unfolding dd.index_codec
+is_index_codec = is_mapped dd.as_index dd.of_index (both name (both dq.names truth)) there_index_codec (λ b ok. refl) (is_both name (both dq.names truth) is_name_codec (is_both dq.names truth is_names is_truth))
 
-pub is_columns_codec : IsCodec dt.columns_codec
-is_columns_codec = is_only_if dt.has_some (counted count dt.column_codec) (is_counted dt.column_codec is_column_codec count is_count)
+pub is_columns_codec : IsCodec dd.columns_codec
+is_columns_codec = is_only_if dd.has_some (counted count dd.column_codec) (is_counted dd.column_codec is_column_codec count is_count)
 
-pub is_head_codec : IsCodec dt.head_codec
-is_head_codec = is_both dt.columns_codec (both (optional dt.key_codec) (both (counted count dt.unique_codec) (both (counted count dt.foreign_codec) (both (counted count dt.index_codec) count)))) is_columns_codec (is_both (optional dt.key_codec) (both (counted count dt.unique_codec) (both (counted count dt.foreign_codec) (both (counted count dt.index_codec) count))) (is_optional dt.key_codec is_key_codec) (is_both (counted count dt.unique_codec) (both (counted count dt.foreign_codec) (both (counted count dt.index_codec) count)) (is_counted dt.unique_codec is_unique_codec count is_count) (is_both (counted count dt.foreign_codec) (both (counted count dt.index_codec) count) (is_counted dt.foreign_codec is_foreign_codec count is_count) (is_both (counted count dt.index_codec) count (is_counted dt.index_codec is_index_codec count is_count) is_count))))
+pub is_head_codec : IsCodec dd.head_codec
+is_head_codec = is_both dd.columns_codec (both (optional dd.key_codec) (both (counted count dd.unique_codec) (both (counted count dd.foreign_codec) (both (counted count dd.index_codec) count)))) is_columns_codec (is_both (optional dd.key_codec) (both (counted count dd.unique_codec) (both (counted count dd.foreign_codec) (both (counted count dd.index_codec) count))) (is_optional dd.key_codec is_key_codec) (is_both (counted count dd.unique_codec) (both (counted count dd.foreign_codec) (both (counted count dd.index_codec) count)) (is_counted dd.unique_codec is_unique_codec count is_count) (is_both (counted count dd.foreign_codec) (both (counted count dd.index_codec) count) (is_counted dd.foreign_codec is_foreign_codec count is_count) (is_both (counted count dd.index_codec) count (is_counted dd.index_codec is_index_codec count is_count) is_count))))
 
-pub is_rows_codec : (h : dt.Head) → IsCodec (dt.rows_codec h)
-is_rows_codec h = is_counted (dt.row_codec h.0) (is_each dv.value_codec is_value_codec (length h.0)) (below 100_001) (is_below_codec 100_001)
+pub is_rows_codec : (h : dd.Head) → IsCodec (dd.rows_codec h)
+is_rows_codec h = is_counted (dd.row_codec h.0) (is_each dv.value_codec is_value_codec (length h.0)) (below 100_001) (is_below_codec 100_001)
 
-there_table_codec : (x : Table) (b : dt.Head × List (List Value)) → dt.of_table x ≡ Some b → dt.as_table b ≡ x
-there_table_codec x b is = ap dt.as_table (sym (some_is ((x.columns, (x.key, (x.uniques, (x.foreign, (x.indexes, x.next))))), x.rows) b is))
+there_table_codec : (x : Table) (b : dd.Head × List (List Value)) → dd.of_table x ≡ Some b → dd.as_table b ≡ x
+there_table_codec x b is = ap dd.as_table (sym (some_is ((x.columns, (x.key, (x.uniques, (x.foreign, (x.indexes, x.next))))), x.rows) b is))
 
-pub is_table_codec : IsCodec dt.table_codec
-unfolding dt.table_codec
-is_table_codec = is_mapped dt.as_table dt.of_table (after dt.head_codec dt.rows_codec) there_table_codec (λ b ok. refl) (is_after dt.head_codec dt.rows_codec is_head_codec is_rows_codec)
+pub is_table_codec : IsCodec dd.table_codec
+unfolding dd.table_codec
+is_table_codec = is_mapped dd.as_table dd.of_table (after dd.head_codec dd.rows_codec) there_table_codec (λ b ok. refl) (is_after dd.head_codec dd.rows_codec is_head_codec is_rows_codec)
 
 there_in_all : (x : Wanted) (b : Unit {0}) → dq.in_all x ≡ Some b → always wanted.All b ≡ x
 there_in_all wanted.All b is = refl
@@ -685,4 +684,4 @@ there_catalogue_codec : (x : Catalogue) (b : List (Name × Table) × (List (Name
 there_catalogue_codec x b is = ap dd.as_catalogue (sym (some_is (x.tables, (x.views, x.sequences)) b is))
 
 pub is_catalogue_codec : IsCodec dd.catalogue_codec
-is_catalogue_codec = is_mapped dd.as_catalogue dd.of_catalogue (both (counted count (both name dt.table_codec)) (both (counted count (both name dd.view_codec)) (counted count (both name dd.sequence_codec)))) there_catalogue_codec (λ b ok. refl) (is_both (counted count (both name dt.table_codec)) (both (counted count (both name dd.view_codec)) (counted count (both name dd.sequence_codec))) (is_counted (both name dt.table_codec) (is_both name dt.table_codec is_name_codec is_table_codec) count is_count) (is_both (counted count (both name dd.view_codec)) (counted count (both name dd.sequence_codec)) (is_counted (both name dd.view_codec) (is_both name dd.view_codec is_name_codec is_view_codec) count is_count) (is_counted (both name dd.sequence_codec) (is_both name dd.sequence_codec is_name_codec is_sequence_codec) count is_count)))
+is_catalogue_codec = is_mapped dd.as_catalogue dd.of_catalogue (both (counted count (both name dd.table_codec)) (both (counted count (both name dd.view_codec)) (counted count (both name dd.sequence_codec)))) there_catalogue_codec (λ b ok. refl) (is_both (counted count (both name dd.table_codec)) (both (counted count (both name dd.view_codec)) (counted count (both name dd.sequence_codec))) (is_counted (both name dd.table_codec) (is_both name dd.table_codec is_name_codec is_table_codec) count is_count) (is_both (counted count (both name dd.view_codec)) (counted count (both name dd.sequence_codec)) (is_counted (both name dd.view_codec) (is_both name dd.view_codec is_name_codec is_view_codec) count is_count) (is_counted (both name dd.sequence_codec) (is_both name dd.sequence_codec is_name_codec is_sequence_codec) count is_count)))

@@ -3,7 +3,6 @@ ghost use Rattle.lq_base.specs.Name.{beside};
 ghost use Rattle.lq_base.specs.declared.name.Name.{Name as Bytes};
 ghost use Rattle.lq_model.specs.NameSpaces as spaces;
 ghost use Rattle.lq_model.specs.Catalogue.{is_in};
-ghost use Rattle.lq_model.specs.NameSpaces as reserved;
 ghost use Rattle.lq_keyops.specs.Targets.{no_tests};
 
 use lq_arm::{Tests, any_is_foreign, any_is_inner, is_constraint, is_unique_or_index};
@@ -16,7 +15,7 @@ use lq_rows::Held;
 /// Whether one of two names is reserved to the program.
 #[tactic(auto, using(crate::proofs::Ended::reserved_two))]
 pub fn are_reserved(by: By, first: &Name, second: &Name) -> bool
-    ensures { result ≡ reserved.is_reserved by (first.now ∷ second.now ∷ []) }
+    ensures { result ≡ spaces.is_reserved by (first.now ∷ second.now ∷ []) }
 {
     is_reserved(by, first) || is_reserved(by, second)
 }

@@ -11,10 +11,8 @@ ghost use Rattle.lq_model.specs.NameSpaces as spaces;
 ghost use Rattle.lq_model.specs.Catalogue as names;
 ghost use Rattle.lq_model.specs.Plan.{decide};
 ghost use Rattle.lq_model.specs.Views as query;
-ghost use Rattle.lq_model.specs.NameSpaces as reserved;
 ghost use Rattle.lq_model.specs.Sound.{IsSound};
 ghost use Rattle.lq_model.specs.Truth.{names_in};
-ghost use Rattle.lq_model.specs.Views as spec;
 ghost use Rattle.lq_rows.specs.Stored.{Answers, Continues};
 ghost use Rattle.lq_objectops.specs.Quiet.{view_over};
 
@@ -65,7 +63,7 @@ fn lacks_tested(columns: &[Column], test: &Option<Test>) -> bool
 fn is_wrong(columns: &[Column], query: &Query) -> bool
     ensures { result
         ≡
-        (spec.is_count query.now.wanted
+        (query.is_count query.now.wanted
         || comparison.compares_wrongly columns.now query.now.test) }
 {
     if matches!(query.wanted, Wanted::Count) {
@@ -84,7 +82,7 @@ fn is_taken_view(parts: &Parts, by: By, dialect: Dialect, view: &Name, replace: 
         (not (replace && is_some (view_of parts.now.now view.now))
         &&
         (spaces.is_taken dialect view.now parts.now.now
-        || reserved.takes_lock_key by dialect (view.now ∷ []))) }
+        || spaces.takes_lock_key by dialect (view.now ∷ []))) }
 {
     if replace && parts.view(view).is_some() {
         return false;
@@ -105,7 +103,7 @@ fn create_tests(
     ensures { IfOk result (λ tests.
         verdict_of tests
         ≡ verdict_of
-        (tests_of (spec.create_view by dialect view.now query.now replace parts.now.now)
+        (tests_of (query.create_view by dialect view.now query.now replace parts.now.now)
         no_faults)) }
 {
     let reserved = are_reserved(by, view, &query.table);
@@ -166,7 +164,7 @@ fn view_on(alloc: Global, columns: &[Column], query: &Query) -> Result<View, NoM
 fn new_view(alloc: Global, parts: &Parts, query: &Query) -> Result<View, NoMemory>
     requires { is_some (table_of parts.now.now query.now.table) ≡ true }
     ensures { IfOk result
-        (λ view. view ≡ spec.new_view query.now (the_table parts.now.now query.now.table)) }
+        (λ view. view ≡ query.new_view query.now (the_table parts.now.now query.now.table)) }
 {
     match parts.table(&query.table) {
         Some(held) => view_on(alloc, held.columns(), query),
@@ -201,7 +199,7 @@ pub fn create_view(
 ) -> Result<u64, RunFault>
     requires { IsSound dialect parts.old.now }
     ensures { Answers
-        (decide (spec.create_view by dialect view.now query.now replace parts.old.now)) parts.old
+        (decide (query.create_view by dialect view.now query.now replace parts.old.now)) parts.old
         parts.new result }
 {
     let tests = create_tests(parts, alloc, by, dialect, view, query, replace)?;

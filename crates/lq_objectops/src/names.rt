@@ -1,7 +1,6 @@
 ghost use Rattle.std.specs.Prelude.{◌≡◌, ◌∷◌, [], ◌||◌};
 ghost use Rattle.lq_model.specs.NameSpaces as spaces;
 ghost use Rattle.lq_model.specs.Catalogue.{is_in};
-ghost use Rattle.lq_model.specs.NameSpaces as reserved;
 ghost use Rattle.lq_objectops.specs.Quiet.{no_tests};
 
 use lq_arm::{Tests, any_is_inner, takes_lock_key};
@@ -13,7 +12,7 @@ use lq_query::is_reserved;
 /// Whether one of two names is reserved to the program.
 #[tactic(auto, using(crate::proofs::Objects::reserved_two))]
 pub fn are_reserved(by: By, first: &Name, second: &Name) -> bool
-    ensures { result ≡ reserved.is_reserved by (first.now ∷ second.now ∷ []) }
+    ensures { result ≡ spaces.is_reserved by (first.now ∷ second.now ∷ []) }
 {
     is_reserved(by, first) || is_reserved(by, second)
 }
@@ -50,7 +49,7 @@ pub fn is_taken(parts: &Parts, by: By, dialect: Dialect, name: &Name) -> bool
     ensures { result
         ≡
         (spaces.is_taken dialect name.now parts.now.now
-        || reserved.takes_lock_key by dialect (name.now ∷ [])) }
+        || spaces.takes_lock_key by dialect (name.now ∷ [])) }
 {
     is_held(parts, dialect, name) || takes_lock_key(by, dialect, name)
 }
@@ -60,7 +59,7 @@ pub fn is_taken_to(parts: &Parts, by: By, dialect: Dialect, name: &Name, to: &Na
     ensures { result
         ≡
         (spaces.is_taken dialect to.now parts.now.now
-        || reserved.takes_lock_key by dialect (name.now ∷ to.now ∷ [])) }
+        || spaces.takes_lock_key by dialect (name.now ∷ to.now ∷ [])) }
 {
     is_taken(parts, by, dialect, to) | takes_lock_key(by, dialect, name)
 }

@@ -9,7 +9,6 @@ use Rattle.lq_base.specs.declared.dialect.Dialect.{Dialect}
 use Rattle.lq_base.specs.declared.dialect.Dialect.TheVariants.{Postgresql, Mysql}
 use Rattle.lq_base.specs.declared.lexeme.LexemeSort.TheVariants as sort
 use Rattle.lq_model.specs.TestText as phrases
-use Rattle.lq_model.specs.TestText as model
 use Rattle.lq_model.specs.SqlWord.{bare, inside, kind_of_word, pair_text, unquoted, with_text, words}
 use Rattle.lq_model.specs.declared.phrase.Phrase.TheVariants as phrase
 use Rattle.lq_model.specs.declared.word.Word.{Word}
@@ -67,7 +66,7 @@ unfolding unquoted
 unquoted_is escaping quote text = inside_doubled escaping quote text
 
 -- two tests of what is doubled that agree
-doubled_same : (escaping : Bool) (quote : ℕ) (is_twice : ℕ → Bool) → ((b : ℕ) → is_twice b ≡ (b == quote || (escaping && b == 92))) → (text : List ℕ) → model.doubled is_twice text ≡ doubled escaping quote text
+doubled_same : (escaping : Bool) (quote : ℕ) (is_twice : ℕ → Bool) → ((b : ℕ) → is_twice b ≡ (b == quote || (escaping && b == 92))) → (text : List ℕ) → phrases.doubled is_twice text ≡ doubled escaping quote text
 doubled_same escaping quote is_twice agree [] = refl
 doubled_same escaping quote is_twice agree (b ∷ text) = rw (agree b, doubled_same escaping quote is_twice agree text) refl
 
@@ -91,8 +90,8 @@ abbrev name_mark : Dialect → ℕ
 name_mark Postgresql = 34
 name_mark Mysql = 96
 
-text_says : LexemesGoOn → NamesAreRead → (d : Dialect) (text rest : List ℕ) → (slice_index rest 0 == name_mark d) ≡ false → Says d (model.quoted_text d text) (λ more. with_text word.Quoted text ∷ more) rest
-unfolding model.quoted_text phrases.words
+text_says : LexemesGoOn → NamesAreRead → (d : Dialect) (text rest : List ℕ) → (slice_index rest 0 == name_mark d) ≡ false → Says d (phrases.quoted_text d text) (λ more. with_text word.Quoted text ∷ more) rest
+unfolding phrases.quoted_text phrases.words
 text_says go_on names Postgresql text rest other =
     ap (λ z. words Postgresql (34 ∷ (z ++ 34 ∷ []) ++ rest)) (doubled_same false 34 (λ b. b == 34) (λ b. plain_or (b == 34)) text)
     ∙ quoted_says go_on Postgresql 34 text rest (names Postgresql 34 text refl) other
@@ -105,13 +104,13 @@ stops_name Postgresql rest stop = apart 34 refl (refl, (refl, (refl, (refl, tt))
 stops_name Mysql rest stop = apart 96 refl (refl, (refl, (refl, (refl, tt)))) rest stop
 
 -- a text in the quotes of names
-pub quoted_text_says : LexemesGoOn → NamesAreRead → (d : Dialect) (text rest : List ℕ) → Stops rest → Says d (model.quoted_text d text) (λ more. with_text word.Quoted text ∷ more) rest
+pub quoted_text_says : LexemesGoOn → NamesAreRead → (d : Dialect) (text rest : List ℕ) → Stops rest → Says d (phrases.quoted_text d text) (λ more. with_text word.Quoted text ∷ more) rest
 quoted_text_says go_on names d text rest stop = text_says go_on names d text rest (stops_name d rest stop)
 
-dot_says : LexemesGoOn → (d : Dialect) (text rest : List ℕ) → words d (phrases.words phrase.Dot ++ (model.quoted_text d text ++ rest)) ≡ option_map (λ ws. bare word.Dot ∷ ws) (words d (model.quoted_text d text ++ rest))
-unfolding model.quoted_text phrases.words length_at kind_of_word
-dot_says go_on Postgresql text rest = mark_says go_on Postgresql (codes ".") (model.quoted_text Postgresql text ++ rest) word.Dot (omega arith) refl refl refl
-dot_says go_on Mysql text rest = mark_says go_on Mysql (codes ".") (model.quoted_text Mysql text ++ rest) word.Dot (omega arith) refl refl refl
+dot_says : LexemesGoOn → (d : Dialect) (text rest : List ℕ) → words d (phrases.words phrase.Dot ++ (phrases.quoted_text d text ++ rest)) ≡ option_map (λ ws. bare word.Dot ∷ ws) (words d (phrases.quoted_text d text ++ rest))
+unfolding phrases.quoted_text phrases.words length_at kind_of_word
+dot_says go_on Postgresql text rest = mark_says go_on Postgresql (codes ".") (phrases.quoted_text Postgresql text ++ rest) word.Dot (omega arith) refl refl refl
+dot_says go_on Mysql text rest = mark_says go_on Mysql (codes ".") (phrases.quoted_text Mysql text ++ rest) word.Dot (omega arith) refl refl refl
 
 joined_words : (f g h : List Word → List Word) (o : Option (List Word)) → option_map f (option_map g (option_map h o)) ≡ option_map (λ ws. f (g (h ws))) o
 joined_words f g h None = refl
@@ -124,10 +123,10 @@ not_mark Mysql more = refl
 
 -- a schema, a dot and a text
 both_say : LexemesGoOn → NamesAreRead → (d : Dialect) (schema text rest : List ℕ) → Stops rest
-    → Says d (model.quoted_text d schema ++ phrases.words phrase.Dot ++ model.quoted_text d text) (λ more. with_text word.Quoted schema ∷ bare word.Dot ∷ with_text word.Quoted text ∷ more) rest
+    → Says d (phrases.quoted_text d schema ++ phrases.words phrase.Dot ++ phrases.quoted_text d text) (λ more. with_text word.Quoted schema ∷ bare word.Dot ∷ with_text word.Quoted text ∷ more) rest
 both_say go_on names d schema text rest stop =
-    let one = model.quoted_text d schema in
-    let two = model.quoted_text d text in
+    let one = phrases.quoted_text d schema in
+    let two = phrases.quoted_text d text in
     let dot = phrases.words phrase.Dot in
     ap (words d) (append_assoc (one ++ dot) two rest ∙ append_assoc one dot (two ++ rest))
     ∙ text_says go_on names d schema (dot ++ (two ++ rest)) (not_mark d (two ++ rest))
@@ -136,12 +135,12 @@ both_say go_on names d schema text rest stop =
     ∙ joined_words (λ more. with_text word.Quoted schema ∷ more) (λ ws. bare word.Dot ∷ ws) (λ more. with_text word.Quoted text ∷ more) (words d rest)
 
 name_by : LexemesGoOn → NamesAreRead → (d : Dialect) (n : List ℕ) (o : Option (List ℕ × List ℕ)) (rest : List ℕ) → Stops rest
-    → Says d (if is_some o then model.quoted_text d (schema_in o) ++ phrases.words phrase.Dot ++ model.quoted_text d (text_in n o) else model.quoted_text d n) (words_in n o) rest
+    → Says d (if is_some o then phrases.quoted_text d (schema_in o) ++ phrases.words phrase.Dot ++ phrases.quoted_text d (text_in n o) else phrases.quoted_text d n) (words_in n o) rest
 name_by go_on names d n None rest stop = quoted_text_says go_on names d n rest stop
 name_by go_on names d n (Some parts) rest stop = both_say go_on names d parts.0 parts.1 rest stop
 
-pub name_says : LexemesGoOn → NamesAreRead → (d : Dialect) (name rest : List ℕ) → Stops rest → Says d (model.name_text d name) (name_word name) rest
-unfolding model.name_text
+pub name_says : LexemesGoOn → NamesAreRead → (d : Dialect) (name rest : List ℕ) → Stops rest → Says d (phrases.name_text d name) (name_word name) rest
+unfolding phrases.name_text
 name_says go_on names d name rest stop = name_by go_on names d name (parts_of name) rest stop
 
 pub names_whole : LexemesGoOn → NamesAreRead → QuotedNamesAreOneWord
@@ -157,8 +156,8 @@ string_read : LexemesGoOn → TextsAreRead → (d : Dialect) (text rest : List �
     → Says d (in_quotes (escapes d) 39 text) (λ more. with_text word.Text text ∷ more) rest
 string_read go_on texts d text rest is stop = strings_whole go_on texts d 39 text rest is (apart 39 refl (refl, (refl, (refl, (refl, tt)))) rest stop)
 
-pub string_says : LexemesGoOn → TextsAreRead → (d : Dialect) (text rest : List ℕ) → Stops rest → Says d (model.string_text d text) (λ more. with_text word.Text text ∷ more) rest
-unfolding model.string_text Rattle.lq_model.specs.TestText.words
+pub string_says : LexemesGoOn → TextsAreRead → (d : Dialect) (text rest : List ℕ) → Stops rest → Says d (phrases.string_text d text) (λ more. with_text word.Text text ∷ more) rest
+unfolding phrases.string_text Rattle.lq_model.specs.TestText.words
 string_says go_on texts Postgresql text rest stop =
     ap (λ z. words Postgresql (39 ∷ (z ++ 39 ∷ []) ++ rest)) (doubled_same false 39 (λ b. b == 39) (λ b. plain_or (b == 39)) text)
     ∙ string_read go_on texts Postgresql text rest refl stop

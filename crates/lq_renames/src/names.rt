@@ -2,7 +2,6 @@ ghost use Rattle.std.specs.Prelude.{◌≡◌, ◌∷◌, [], ◌||◌};
 ghost use Rattle.lq_model.specs.NameSpaces as spaces;
 ghost use Rattle.lq_model.specs.Catalogue.{is_in};
 ghost use Rattle.lq_model.specs.Tables.{is_shown, is_viewed};
-ghost use Rattle.lq_model.specs.NameSpaces as reserved;
 
 use lq_arm::{any_is_inner, takes_lock_key};
 use lq_base::{Dialect, Name};
@@ -14,7 +13,7 @@ use lq_shapes::shows;
 /// Whether one of two names is reserved to the program.
 #[tactic(auto, using(crate::proofs::Renamed::reserved_two))]
 pub fn are_reserved(by: By, first: &Name, second: &Name) -> bool
-    ensures { result ≡ reserved.is_reserved by (first.now ∷ second.now ∷ []) }
+    ensures { result ≡ spaces.is_reserved by (first.now ∷ second.now ∷ []) }
 {
     is_reserved(by, first) || is_reserved(by, second)
 }
@@ -51,7 +50,7 @@ fn is_taken(parts: &Parts, by: By, dialect: Dialect, name: &Name) -> bool
     ensures { result
         ≡
         (spaces.is_taken dialect name.now parts.now.now
-        || reserved.takes_lock_key by dialect (name.now ∷ [])) }
+        || spaces.takes_lock_key by dialect (name.now ∷ [])) }
 {
     is_held(parts, dialect, name) || takes_lock_key(by, dialect, name)
 }
@@ -61,7 +60,7 @@ pub fn is_taken_to(parts: &Parts, by: By, dialect: Dialect, name: &Name, to: &Na
     ensures { result
         ≡
         (spaces.is_taken dialect to.now parts.now.now
-        || reserved.takes_lock_key by dialect (name.now ∷ to.now ∷ [])) }
+        || spaces.takes_lock_key by dialect (name.now ∷ to.now ∷ [])) }
 {
     is_taken(parts, by, dialect, to) | takes_lock_key(by, dialect, name)
 }

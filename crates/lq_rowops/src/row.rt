@@ -3,8 +3,7 @@ ghost use Rattle.std.specs.Prelude.{◌≡◌, ◌+◌, IfOk, IfSome, cond, Ok, 
 ghost use Rattle.lq_base.specs.Spells.{Goes};
 ghost use Rattle.lq_model.specs.Rows as spec;
 ghost use Rattle.lq_model.specs.Kinds.{default_value};
-ghost use Rattle.lq_model.specs.Catalogue as spaces;
-ghost use Rattle.lq_model.specs.Catalogue as rows;
+ghost use Rattle.lq_model.specs.Catalogue as catalogue;
 ghost use Rattle.lq_base.specs.declared.dialect.Dialect.TheVariants.{Mysql};
 ghost use Rattle.lq_base.specs.declared.value.Value.TheVariants.{Int};
 ghost use Rattle.lq_rowops.specs.InsertTests.{RowAnswers, RowMeans};
@@ -94,7 +93,7 @@ pub fn row_of(
 
 /// Whether a NOT NULL column of the row holds null.
 pub fn has_bad_null(columns: &[Column], row: &[Value]) -> bool
-    ensures { result ≡ rows.has_bad_null columns.now row.now }
+    ensures { result ≡ catalogue.has_bad_null columns.now row.now }
 {
     let mut left = columns;
     let mut cells = row;
@@ -113,7 +112,7 @@ pub fn has_bad_null(columns: &[Column], row: &[Value]) -> bool
 
 /// Whether one of the names stands there twice.
 pub fn repeats(names: &[Name]) -> bool
-    ensures { result ≡ spaces.repeats names.now }
+    ensures { result ≡ catalogue.repeats names.now }
 {
     let mut left = names;
     while let [first, rest @ ..] = left {
@@ -126,7 +125,7 @@ pub fn repeats(names: &[Name]) -> bool
 }
 
 pub fn is_in(name: &Name, names: &[Name]) -> bool
-    ensures { result ≡ spaces.is_in name.now names.now }
+    ensures { result ≡ catalogue.is_in name.now names.now }
 {
     names.iter().any(|other| *name == *other)
 }
@@ -134,7 +133,7 @@ pub fn is_in(name: &Name, names: &[Name]) -> bool
 /// Whether a column of one of the names is missing.
 pub fn column_missing(columns: &[Column], names: &[Name]) -> bool
     ensures { result
-        ≡ list_any (λ n. not (spaces.is_in n (map (λ c. c.name) columns.now))) names.now }
+        ≡ list_any (λ n. not (catalogue.is_in n (map (λ c. c.name) columns.now))) names.now }
 {
     names.iter().any(|name| !has_column(columns, name))
 }
@@ -142,7 +141,7 @@ pub fn column_missing(columns: &[Column], names: &[Name]) -> bool
 /// The columns that are stated: all in order where none is.
 pub fn stated(alloc: Global, columns: &[Column], names: &[Name]) -> Result<Items<Name>, NoMemory>
     ensures { IfOk result
-        (λ all. all ≡ cond (spaces.is_empty names.now) (map (λ c. c.name) columns.now) names.now) }
+        (λ all. all ≡ cond (catalogue.is_empty names.now) (map (λ c. c.name) columns.now) names.now) }
 {
     if names.is_empty() {
         return all_names(alloc, columns);
@@ -208,7 +207,7 @@ fn number_behind(
 ) -> Option<u64>
     ensures { IfSome result (λ after.
         after
-        ≡ cond (spaces.is_in column.now.name stated.now) (spec.number_after dialect next value.now)
+        ≡ cond (catalogue.is_in column.now.name stated.now) (spec.number_after dialect next value.now)
         (next + 1)) }
 {
     if is_in(&column.name, stated) {
