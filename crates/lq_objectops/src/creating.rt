@@ -10,7 +10,7 @@ ghost use Rattle.lq_model.specs.Comparison as comparison;
 ghost use Rattle.lq_model.specs.NameSpaces as spaces;
 ghost use Rattle.lq_model.specs.Catalogue as names;
 ghost use Rattle.lq_model.specs.Plan.{decide};
-ghost use Rattle.lq_model.specs.Views as query;
+ghost use Rattle.lq_model.specs.Views as spec;
 ghost use Rattle.lq_model.specs.Sound.{IsSound};
 ghost use Rattle.lq_model.specs.Truth.{names_in};
 ghost use Rattle.lq_rows.specs.Stored.{Answers, Continues};
@@ -28,7 +28,7 @@ use std::alloc::Global;
 #[tactic(auto, using(lq_query::proofs::Listed::lacks_none))]
 fn lacks_listed(alloc: Global, columns: &[Column], wanted: &Wanted) -> Result<bool, NoMemory>
     ensures { IfOk result
-        (λ lacks. lacks ≡ query.lacks_column columns.now (query.listed wanted.now columns.now)) }
+        (λ lacks. lacks ≡ spec.lacks_column columns.now (spec.listed wanted.now columns.now)) }
 {
     match wanted {
         Wanted::All => Ok(false),
@@ -40,7 +40,7 @@ fn lacks_listed(alloc: Global, columns: &[Column], wanted: &Wanted) -> Result<bo
 /// Whether a view lists a column twice.
 fn repeats_listed(alloc: Global, columns: &[Column], wanted: &Wanted) -> Result<bool, NoMemory>
     requires { names.repeats (map (λ c. c.name) columns.now) ≡ false }
-    ensures { IfOk result (λ found. found ≡ names.repeats (query.listed wanted.now columns.now)) }
+    ensures { IfOk result (λ found. found ≡ names.repeats (spec.listed wanted.now columns.now)) }
 {
     match wanted {
         Wanted::All => Ok(false),
@@ -51,7 +51,7 @@ fn repeats_listed(alloc: Global, columns: &[Column], wanted: &Wanted) -> Result<
 
 /// Whether a view's test names a column that is not there.
 fn lacks_tested(columns: &[Column], test: &Option<Test>) -> bool
-    ensures { result ≡ query.lacks_column columns.now (names_in test.now) }
+    ensures { result ≡ spec.lacks_column columns.now (names_in test.now) }
 {
     match test {
         Some(test) => lacks_tested_column(columns, test),
@@ -63,7 +63,7 @@ fn lacks_tested(columns: &[Column], test: &Option<Test>) -> bool
 fn is_wrong(columns: &[Column], query: &Query) -> bool
     ensures { result
         ≡
-        (query.is_count query.now.wanted
+        (spec.is_count query.now.wanted
         || comparison.compares_wrongly columns.now query.now.test) }
 {
     if matches!(query.wanted, Wanted::Count) {
@@ -103,7 +103,7 @@ fn create_tests(
     ensures { IfOk result (λ tests.
         verdict_of tests
         ≡ verdict_of
-        (tests_of (query.create_view by dialect view.now query.now replace parts.now.now)
+        (tests_of (spec.create_view by dialect view.now query.now replace parts.now.now)
         no_faults)) }
 {
     let reserved = are_reserved(by, view, &query.table);
@@ -128,7 +128,7 @@ fn create_tests(
 
 /// The names of the columns that a view lists.
 fn listed(alloc: Global, columns: &[Column], wanted: &Wanted) -> Result<Items<Name>, NoMemory>
-    ensures { IfOk result (λ names. names ≡ query.listed wanted.now columns.now) }
+    ensures { IfOk result (λ names. names ≡ spec.listed wanted.now columns.now) }
 {
     match wanted {
         Wanted::All => all_names(alloc, columns),
@@ -199,7 +199,7 @@ pub fn create_view(
 ) -> Result<u64, RunFault>
     requires { IsSound dialect parts.old.now }
     ensures { Answers
-        (decide (query.create_view by dialect view.now query.now replace parts.old.now)) parts.old
+        (decide (spec.create_view by dialect view.now query.now replace parts.old.now)) parts.old
         parts.new result }
 {
     let tests = create_tests(parts, alloc, by, dialect, view, query, replace)?;
