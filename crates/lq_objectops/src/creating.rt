@@ -164,7 +164,7 @@ fn view_on(alloc: Global, columns: &[Column], query: &Query) -> Result<View, NoM
 fn new_view(alloc: Global, parts: &Parts, query: &Query) -> Result<View, NoMemory>
     requires { is_some (table_of parts.now.now query.now.table) ≡ true }
     ensures { IfOk result
-        (λ view. view ≡ query.new_view query.now (the_table parts.now.now query.now.table)) }
+        (λ view. view ≡ spec.new_view query.now (the_table parts.now.now query.now.table)) }
 {
     match parts.table(&query.table) {
         Some(held) => view_on(alloc, held.columns(), query),
