@@ -20,7 +20,7 @@ use std::alloc::Global;
 /// Substitution in Changelogs" and "Preconditions"). The first fault is told, depth first: a whole
 /// file's tree before its items, and each item's faults before the next item. What is loaded is for
 /// the dialect, and its changesets' texts are short.
-#[tactic(auto, unfolding(crate::specs::Changelog::changelog))]
+#[tactic(auto, unfolding(crate::specs::Gathers::changelog))]
 pub fn load<F: Files, P: SqlText>(
     alloc: Global,
     files: &mut F,

@@ -105,7 +105,7 @@ fn copied(alloc: Global, text: Option<&str>) -> Result<Option<Text>, NoMemory>
     }
 }
 
-#[tactic(auto, unfolding(crate::specs::Values::properties_of))]
+#[tactic(auto, unfolding(crate::specs::Options::properties_of))]
 fn properties_of(alloc: Global, texts: Option<&[&str]>) -> Result<Items<(Text, Text)>, WordsFault>
     ensures { Gives (properties_of (option_map (λ ts. map (λ t. t.now) ts.now) texts.entry))
         result }

@@ -10,7 +10,7 @@ use std::alloc::Global;
 
 /// The dialect and the path of the database that `postgresql:FILE` or `mysql:FILE` names. FILE has
 /// at least one byte.
-#[tactic(auto, unfolding(crate::specs::Values::url_of))]
+#[tactic(auto, unfolding(crate::specs::Options::url_of))]
 pub fn url_of(text: &str) -> Option<(Dialect, &str)>
     ensures { option_map (λ url. (url.0, url.1.now)) result ≡ url_of text.now }
 {
@@ -33,7 +33,7 @@ fn file_after<'a>(start: &str, text: &'a str) -> Option<&'a str>
 
 /// The number that a text writes in decimal digits, without a sign or a leading zero, where it is
 /// from `least` to `most`.
-#[tactic(auto, unfolding(crate::specs::Values::number_from))]
+#[tactic(auto, unfolding(crate::specs::Options::number_from))]
 pub fn number_from(least: u64, most: u64, text: &str) -> Option<u64>
     ensures value { result ≡ number_from least most text.now }
     ensures bound { IfSome result (λ n. n ≤ most) }
@@ -47,7 +47,7 @@ pub fn number_from(least: u64, most: u64, text: &str) -> Option<u64>
 }
 
 /// The tag of this text, of 1 to 255 characters without a control character.
-#[tactic(auto, unfolding(crate::specs::Values::tag_of))]
+#[tactic(auto, unfolding(crate::specs::Options::tag_of))]
 pub fn tag_of(text: &str) -> Option<&str>
     ensures { option_map (λ tag. tag.now) result ≡ tag_of text.now }
 {
@@ -60,7 +60,7 @@ pub fn tag_of(text: &str) -> Option<&str>
 }
 
 /// The names of a context filter, with commas between and the blanks around a name dropped.
-#[tactic(auto, unfolding(crate::specs::Values::contexts_of))]
+#[tactic(auto, unfolding(crate::specs::Options::contexts_of))]
 pub fn contexts_of(alloc: Global, text: Option<&str>) -> Result<Items<Text>, WordsFault>
     ensures { Gives (contexts_of (option_map (λ t. t.now) text.entry)) result }
 {
@@ -71,7 +71,7 @@ pub fn contexts_of(alloc: Global, text: Option<&str>) -> Result<Items<Text>, Wor
 }
 
 /// The expression of a label filter.
-#[tactic(auto, unfolding(crate::specs::Values::labels_of))]
+#[tactic(auto, unfolding(crate::specs::Options::labels_of))]
 pub fn labels_of(alloc: Global, text: Option<&str>) -> Result<Option<Expr>, WordsFault>
     ensures { Gives (labels_of (option_map (λ t. t.now) text.entry)) result }
 {
@@ -103,7 +103,7 @@ fn expression(alloc: Global, text: &str) -> Result<Expr, WordsFault>
 
 /// The name and the value of a property that `name=value` defines. The name has at least one byte
 /// and ends at the first `=`.
-#[tactic(auto, unfolding(crate::specs::Values::definition_of))]
+#[tactic(auto, unfolding(crate::specs::Options::definition_of))]
 pub fn definition_of(text: &str) -> Option<(&str, &str)>
     ensures { option_map (λ parts. (parts.0.now, parts.1.now)) result ≡ definition_of text.now }
 {

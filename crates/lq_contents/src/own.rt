@@ -116,7 +116,7 @@ fn own_list(alloc: Global, node: &Node) -> Result<Node, NoMemory>
 
 /// What the value of a changelog's `preConditions` states: of the reactions only HALT and WARN are
 /// any (Liquibase's documentation, "Preconditions"). A fault is told at its turn, as in a changeset.
-#[tactic(auto, unfolding(crate::specs::Own::own_reaction))]
+#[tactic(auto, unfolding(crate::specs::Trees::own_reaction))]
 pub fn own_reaction<P: SqlText>(
     alloc: Global,
     node: &Node,

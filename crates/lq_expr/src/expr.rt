@@ -111,7 +111,7 @@ fn is_among(name: &str, names: &[Text]) -> bool
     false
 }
 
-#[tactic(auto, unfolding(crate::specs::Value::is_same_name))]
+#[tactic(auto, unfolding(crate::specs::Spelled::is_same_name))]
 fn is_same_name(name: &str, other: &str) -> bool
     ensures { result ≡ is_same_name name.now other.now }
 {

@@ -20,7 +20,7 @@ impl Given for IndexColumn {
 
     ghost fits = { is_column };
 
-    #[tactic(auto, unfolding(crate::specs::IndexColumn::index_column))]
+    #[tactic(auto, unfolding(crate::specs::OnDelete::index_column))]
     fn given(alloc: Global, node: &Node) -> Result<IndexColumn, KindFault> {
         known(alloc, node, &KEYS)?;
         let name = required(alloc, node, "name")?;

@@ -86,7 +86,7 @@ impl Reader for LabelLists {
 
 /// The context of a changeset, under either of its two names. Where both are there, the second is
 /// bad.
-#[tactic(auto, unfolding(crate::specs::Context::context_at))]
+#[tactic(auto, unfolding(crate::specs::ChangeSets::context_at))]
 pub fn context_at(alloc: Global, node: &Node) -> Result<Option<Context>, KindFault>
     ensures { Reads (context_at node.now) result }
 {

@@ -8,7 +8,7 @@ use lq_cli::{Job, Line, WordsFault, read_words};
 use std::alloc::{AllocError, Global};
 
 /// What a command line asks for, with this option of the database behind the command's name.
-#[tactic(auto, unfolding(crate::specs::Commands::command_of))]
+#[tactic(auto, unfolding(crate::specs::File::command_of))]
 pub fn command_of(alloc: Global, url: &str, text: &str) -> Result<Line, LinesFault>
     ensures { Gives (command_of url.now text.now) result }
 {

@@ -9,7 +9,7 @@ use lq_base::{Items, plain_number};
 use std::alloc::{AllocError, Global};
 
 /// The numbers in these lines, where there are so many command lines.
-#[tactic(auto, unfolding(crate::specs::Steps::steps_of))]
+#[tactic(auto, unfolding(crate::specs::File::steps_of))]
 pub fn steps_of(alloc: Global, count: u32, lines: &[&str]) -> Result<Items<u32>, LinesFault>
     ensures { Gives (steps_of count (map (λ line. line.now) lines.now)) result }
 {
@@ -32,7 +32,7 @@ fn each_line(alloc: Global, count: u32, lines: &[&str]) -> Result<Items<u32>, Li
     Ok(steps)
 }
 
-#[tactic(auto, unfolding(crate::specs::Steps::numbers_in))]
+#[tactic(auto, unfolding(crate::specs::File::numbers_in))]
 fn with_line(
     alloc: Global,
     count: u32,
@@ -68,7 +68,7 @@ fn with_parts(count: u32, parts: &[&[u8]], mut steps: Items<u32>) -> Result<Item
     Ok(steps)
 }
 
-#[tactic(auto, unfolding(crate::specs::Steps::step_of, lq_cli::specs::Values::number_from))]
+#[tactic(auto, unfolding(crate::specs::File::step_of, lq_cli::specs::Options::number_from))]
 fn step_of(count: u32, word: &[u8]) -> Result<u32, LinesFault>
     ensures { Gives (step_of count word.now) result }
 {

@@ -24,7 +24,7 @@ fn front(bytes: &[u8], most: usize) -> &[u8]
 }
 
 // The longest text of whole characters at the front, of at most so many bytes.
-#[tactic(auto, using(crate::proofs::CutSteps::cut_step), unfolding(crate::specs::DefaultName::cut))]
+#[tactic(auto, using(crate::proofs::CutSteps::cut_step), unfolding(crate::specs::Sound::cut))]
 fn cut(bytes: &[u8], most: usize) -> &str
     ensures { result.now ≡ spec.cut most bytes.now }
 {
@@ -80,7 +80,7 @@ fn default_name(
 }
 
 /// The name of a primary key that is not named.
-#[tactic(auto, unfolding(crate::specs::DefaultName::key_name))]
+#[tactic(auto, unfolding(crate::specs::Sound::key_name))]
 pub fn key_name(alloc: Global, dialect: Dialect, table: &Name) -> Result<Name, NoMemory>
     ensures value { IfOk result (λ name. name ≡ spec.key_name dialect table.now) }
     ensures name { IfOk result (λ name. IsName name) }
@@ -103,7 +103,7 @@ fn primary(alloc: Global) -> Result<Name, NoMemory>
 }
 
 /// The name of a unique constraint that is not named.
-#[tactic(auto, unfolding(crate::specs::DefaultName::unique_name))]
+#[tactic(auto, unfolding(crate::specs::Sound::unique_name))]
 pub fn unique_name(alloc: Global, table: &Name, columns: &[Name]) -> Result<Name, NoMemory>
     ensures value { IfOk result (λ name. name ≡ spec.unique_name table.now columns.now) }
     ensures name { IfOk result (λ name. IsName name) }
@@ -112,7 +112,7 @@ pub fn unique_name(alloc: Global, table: &Name, columns: &[Name]) -> Result<Name
 }
 
 /// The name of an index that is not named.
-#[tactic(auto, unfolding(crate::specs::DefaultName::index_name))]
+#[tactic(auto, unfolding(crate::specs::Sound::index_name))]
 pub fn index_name(alloc: Global, table: &Name, columns: &[Name]) -> Result<Name, NoMemory>
     ensures value { IfOk result (λ name. name ≡ spec.index_name table.now columns.now) }
     ensures name { IfOk result (λ name. IsName name) }
@@ -121,7 +121,7 @@ pub fn index_name(alloc: Global, table: &Name, columns: &[Name]) -> Result<Name,
 }
 
 /// The name of a foreign key that is not named.
-#[tactic(auto, unfolding(crate::specs::DefaultName::foreign_name))]
+#[tactic(auto, unfolding(crate::specs::Sound::foreign_name))]
 pub fn foreign_name(alloc: Global, table: &Name, columns: &[Name]) -> Result<Name, NoMemory>
     ensures value { IfOk result (λ name. name ≡ spec.foreign_name table.now columns.now) }
     ensures name { IfOk result (λ name. IsName name) }

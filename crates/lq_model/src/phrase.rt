@@ -85,7 +85,7 @@ pub enum Phrase {
 }
 
 impl Phrase {
-    #[tactic(auto, unfolding(crate::specs::Phrase::words))]
+    #[tactic(auto, unfolding(crate::specs::TestText::words))]
     pub fn text(self) -> &'static str
         ensures { result.now ≡ words self }
     {

@@ -7,7 +7,7 @@ use lq_base::{Dialect, NoMemory, Text};
 use std::alloc::Global;
 
 /// Appends the line for a file of the changelog that is not there.
-#[tactic(auto, unfolding(crate::specs::Log::no_file_line))]
+#[tactic(auto, unfolding(crate::specs::Output::no_file_line))]
 pub fn append_no_file(alloc: Global, path: &str, to: &mut Text) -> Result<(), NoMemory>
     ensures { OnOk result (to.new ≡ to.old ++ no_file_line path.now) }
 {
@@ -15,7 +15,7 @@ pub fn append_no_file(alloc: Global, path: &str, to: &mut Text) -> Result<(), No
 }
 
 /// Appends the line for a file of the changelog of which `what` is wrong.
-#[tactic(auto, unfolding(crate::specs::Log::file_fault_line))]
+#[tactic(auto, unfolding(crate::specs::Output::file_fault_line))]
 pub fn append_file_fault(
     alloc: Global,
     path: &str,
@@ -28,7 +28,7 @@ pub fn append_file_fault(
 }
 
 /// Appends the line for a line of a file, counted from 1, with which the file is none of its format.
-#[tactic(auto, unfolding(crate::specs::Log::line_fault_line))]
+#[tactic(auto, unfolding(crate::specs::Output::line_fault_line))]
 pub fn append_line_fault(
     alloc: Global,
     path: &str,
@@ -44,7 +44,7 @@ pub fn append_line_fault(
 }
 
 /// Appends the line for a place in a file's tree, and the rule that does not hold there.
-#[tactic(auto, unfolding(crate::specs::Log::key_fault_line))]
+#[tactic(auto, unfolding(crate::specs::Output::key_fault_line))]
 pub fn append_key_fault(
     alloc: Global,
     path: &str,
@@ -62,7 +62,7 @@ pub fn append_key_fault(
 }
 
 /// Appends the line for a place in a file's tree where something stands that is not for the dialect.
-#[tactic(auto, unfolding(crate::specs::Log::dialect_fault_line))]
+#[tactic(auto, unfolding(crate::specs::Output::dialect_fault_line))]
 pub fn append_dialect_fault(
     alloc: Global,
     path: &str,

@@ -25,7 +25,7 @@ impl FixedLine {
     ghost use Rattle.lq_report.specs.Output.{fixed_line};
 
     /// The line, with its end.
-    #[tactic(auto, unfolding(crate::specs::Log::fixed_line))]
+    #[tactic(auto, unfolding(crate::specs::Output::fixed_line))]
     pub fn text(self) -> &'static str
         ensures { result.now ≡ fixed_line self }
     {

@@ -34,7 +34,7 @@ fn append_mark_log(alloc: Global, mark: &Mark, to: &mut Text) -> Result<(), NoMe
     append_line(alloc, text.as_str(), to)
 }
 
-#[tactic(auto, unfolding(crate::specs::Log::unrecorded_log_line))]
+#[tactic(auto, unfolding(crate::specs::Output::unrecorded_log_line))]
 fn append_unrecorded_log(alloc: Global, lock: &Lock, to: &mut Text) -> Result<(), NoMemory>
     ensures { OnOk result (to.new ≡ to.old ++ unrecorded_log_line lock.now) }
 {
@@ -54,7 +54,7 @@ fn append_held_log(alloc: Global, lock: &Lock, to: &mut Text) -> Result<(), NoMe
 }
 
 /// Appends the line for a lock that is held, and one for its mark, where it has one.
-#[tactic(auto, unfolding(crate::specs::Log::locked_lines))]
+#[tactic(auto, unfolding(crate::specs::Output::locked_lines))]
 pub fn append_locked(alloc: Global, lock: &Lock, to: &mut Text) -> Result<(), NoMemory>
     requires { ForSome lock.now.granted IsMoment }
     ensures { OnOk result (to.new ≡ to.old ++ locked_lines lock.now) }

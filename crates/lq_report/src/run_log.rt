@@ -8,7 +8,7 @@ use std::alloc::Global;
 
 /// Appends the line for a precondition that does not hold, where the run goes on. Without an identity
 /// it is one of the changelog's own.
-#[tactic(auto, unfolding(crate::specs::Log::warning_line))]
+#[tactic(auto, unfolding(crate::specs::Output::warning_line))]
 pub fn append_warning(
     alloc: Global,
     place: Option<&Identity>,
@@ -24,7 +24,7 @@ pub fn append_warning(
 }
 
 /// Appends the line for a precondition at which the run halted.
-#[tactic(auto, unfolding(crate::specs::Log::halted_line))]
+#[tactic(auto, unfolding(crate::specs::Output::halted_line))]
 pub fn append_halted(
     alloc: Global,
     place: Option<&Identity>,
@@ -40,7 +40,7 @@ pub fn append_halted(
 }
 
 /// Appends the line for a statement that was refused. `kept` of the changeset's statements stay.
-#[tactic(auto, unfolding(crate::specs::Log::refused_line))]
+#[tactic(auto, unfolding(crate::specs::Output::refused_line))]
 pub fn append_refused(
     alloc: Global,
     identity: &Identity,
@@ -60,7 +60,7 @@ pub fn append_refused(
 }
 
 /// Appends the line for a tag that no row has.
-#[tactic(auto, unfolding(crate::specs::Log::no_tag_line))]
+#[tactic(auto, unfolding(crate::specs::Output::no_tag_line))]
 pub fn append_no_tag(alloc: Global, tag: &str, to: &mut Text) -> Result<(), NoMemory>
     ensures { OnOk result (to.new ≡ to.old ++ no_tag_line tag.now) }
 {
@@ -68,7 +68,7 @@ pub fn append_no_tag(alloc: Global, tag: &str, to: &mut Text) -> Result<(), NoMe
 }
 
 /// Appends the line for a changeset that cannot be rolled back.
-#[tactic(auto, unfolding(crate::specs::Log::not_reversible_line))]
+#[tactic(auto, unfolding(crate::specs::Output::not_reversible_line))]
 pub fn append_not_reversible(
     alloc: Global,
     identity: &Identity,
@@ -104,7 +104,7 @@ fn is_nothing(text: &Text) -> bool
 }
 
 /// Appends the line for what a generated changelog cannot say.
-#[tactic(auto, unfolding(crate::specs::Log::not_writable_line))]
+#[tactic(auto, unfolding(crate::specs::Output::not_writable_line))]
 pub fn append_not_writable(alloc: Global, at: &str, to: &mut Text) -> Result<(), NoMemory>
     ensures { OnOk result (to.new ≡ to.old ++ not_writable_line at.now) }
 {
@@ -112,7 +112,7 @@ pub fn append_not_writable(alloc: Global, at: &str, to: &mut Text) -> Result<(),
 }
 
 /// Appends the line for a database file that is damaged from this byte on.
-#[tactic(auto, unfolding(crate::specs::Log::damaged_line))]
+#[tactic(auto, unfolding(crate::specs::Output::damaged_line))]
 pub fn append_damaged(at: u64, to: &mut Text) -> Result<(), NoMemory>
     ensures { OnOk result (to.new ≡ to.old ++ damaged_line at) }
 {
@@ -120,7 +120,7 @@ pub fn append_damaged(at: u64, to: &mut Text) -> Result<(), NoMemory>
 }
 
 /// Appends the line for a journal that has no room for the `next` bytes behind the `used` ones.
-#[tactic(auto, unfolding(crate::specs::Log::full_line))]
+#[tactic(auto, unfolding(crate::specs::Output::full_line))]
 pub fn append_full(used: u64, next: u64, to: &mut Text) -> Result<(), NoMemory>
     ensures { OnOk result (to.new ≡ to.old ++ full_line used next) }
 {
@@ -129,7 +129,7 @@ pub fn append_full(used: u64, next: u64, to: &mut Text) -> Result<(), NoMemory>
 }
 
 /// Appends the line for a runner that needs the database while this session has a transaction open.
-#[tactic(auto, unfolding(crate::specs::Log::busy_line))]
+#[tactic(auto, unfolding(crate::specs::Output::busy_line))]
 pub fn append_busy(session: u32, to: &mut Text) -> Result<(), NoMemory>
     ensures { OnOk result (to.new ≡ to.old ++ busy_line session) }
 {

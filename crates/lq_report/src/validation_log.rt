@@ -7,7 +7,7 @@ use lq_base::{Identity, NoMemory, Text};
 use std::alloc::Global;
 
 /// Appends the line for a changeset with the identity of an earlier one.
-#[tactic(auto, unfolding(crate::specs::Log::twice_line))]
+#[tactic(auto, unfolding(crate::specs::Output::twice_line))]
 pub fn append_twice(alloc: Global, identity: &Identity, to: &mut Text) -> Result<(), NoMemory>
     ensures { OnOk result (to.new ≡ to.old ++ twice_line identity.now) }
 {
@@ -17,7 +17,7 @@ pub fn append_twice(alloc: Global, identity: &Identity, to: &mut Text) -> Result
 }
 
 /// Appends the line for a changeset whose row has the checksum `was`, and which now has `is`.
-#[tactic(auto, unfolding(crate::specs::Log::changed_line))]
+#[tactic(auto, unfolding(crate::specs::Output::changed_line))]
 pub fn append_changed(
     alloc: Global,
     identity: &Identity,

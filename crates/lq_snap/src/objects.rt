@@ -20,7 +20,7 @@ fn append_names(items: &[Name], to: &mut Vec<u8>) -> Result<(), NoMemory>
     Ok(())
 }
 
-#[tactic(auto, unfolding(lq_codec::specs::Database::view_codec), using(lq_state::proofs::ShapedLemmas::first_fits))]
+#[tactic(auto, unfolding(lq_codec::specs::Tables::view_codec), using(lq_state::proofs::ShapedLemmas::first_fits))]
 fn append_view(view: &View, to: &mut Vec<u8>) -> Result<(), NoMemory>
     ensures bytes { OnOk result (to.new.items ≡ to.old.items ++ view_codec.write view.now) }
     ensures fits { OnOk result
@@ -60,7 +60,7 @@ pub fn append_views(entries: &[(Name, View)], to: &mut Vec<u8>) -> Result<(), No
     Ok(())
 }
 
-#[tactic(auto, unfolding(lq_codec::specs::Database::sequence_codec))]
+#[tactic(auto, unfolding(lq_codec::specs::Tables::sequence_codec))]
 fn append_sequence(sequence: &Sequence, to: &mut Vec<u8>) -> Result<(), NoMemory>
     ensures bytes { OnOk result
         (to.new.items ≡ to.old.items ++ sequence_codec.write sequence.now) }

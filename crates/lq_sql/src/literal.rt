@@ -6,7 +6,7 @@ use lq_base::{Dialect, Literal, NoMemory, Text, append_fixed, append_whole};
 use lq_model::Phrase;
 use lq_quoting::{Twice, push_doubled};
 
-#[tactic(auto, unfolding(lq_model::specs::Quoting::string_text))]
+#[tactic(auto, unfolding(lq_model::specs::TestText::string_text))]
 fn push_string(dialect: Dialect, to: &mut Text, text: &str) -> Result<(), NoMemory>
     ensures { OnOk result (to.new ≡ to.old ++ string_text dialect text.now) }
 {

@@ -16,7 +16,7 @@ fn name_quote(dialect: Dialect) -> &'static str
     }
 }
 
-#[tactic(auto, unfolding(lq_model::specs::Quoting::quoted_text))]
+#[tactic(auto, unfolding(lq_model::specs::TestText::quoted_text))]
 fn spell_quoted(style: Style, to: &mut Text, text: &str) -> Result<(), NoMemory>
     ensures { OnOk result (to.new ≡ to.old ++ quoted_text style.dialect text.now) }
 {
@@ -28,7 +28,7 @@ fn spell_quoted(style: Style, to: &mut Text, text: &str) -> Result<(), NoMemory>
 impl Spell for Name {
     ghost text = { name_text };
 
-    #[tactic(auto, unfolding(lq_model::specs::Quoting::name_text))]
+    #[tactic(auto, unfolding(lq_model::specs::TestText::name_text))]
     fn spell(&self, style: Style, to: &mut Text) -> Result<(), NoMemory> {
         if self.is_elsewhere() {
             spell_quoted(style, to, self.schema())?;

@@ -132,7 +132,7 @@ impl Draft {
         })
     }
 
-    #[tactic(auto, unfolding(crate::specs::Machine::with_line))]
+    #[tactic(auto, unfolding(crate::specs::File::with_line))]
     // A line of the body. Blank lines wait for one that is not.
     fn with_line(mut self, alloc: Global, line: &str) -> Result<Draft, NoMemory>
         ensures { IfOk result (λ draft. draft ≡ with_line line.now self) }

@@ -16,7 +16,7 @@ fn quoted(inside: &str) -> Option<(&str, &str)>
 }
 
 /// The value at the front of a text, and what stands behind it and the blanks that follow.
-#[tactic(auto, unfolding(crate::specs::Pairs::value))]
+#[tactic(auto, unfolding(crate::specs::Lines::value))]
 fn value(text: &str) -> Option<(&str, &str)>
     ensures { option_map (λ p. (p.0.now, p.1.now)) result ≡ value text.now }
 {
@@ -30,7 +30,7 @@ fn value(text: &str) -> Option<(&str, &str)>
 }
 
 /// The name and the value at the front of a text, and what stands behind them.
-#[tactic(auto, unfolding(crate::specs::Pairs::pair))]
+#[tactic(auto, unfolding(crate::specs::Lines::pair))]
 pub fn pair(text: &str) -> Option<(&str, &str, &str)>
     ensures { option_map (λ p. (p.0.now, p.1.now, p.2.now)) result ≡ pair text.now }
 {
@@ -63,7 +63,7 @@ fn has_name(name: &str, pairs: &[(Text, Text)]) -> bool
 }
 
 // The next pair, if its name is one of the words and is not given yet.
-#[tactic(auto, unfolding(crate::specs::Pairs::new_pair))]
+#[tactic(auto, unfolding(crate::specs::Lines::new_pair))]
 fn new_pair<'a, 'b>(
     words: &[&'b str],
     given: &[(Text, Text)],

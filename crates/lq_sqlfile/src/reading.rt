@@ -99,7 +99,7 @@ impl Reader {
     }
 
     // Takes a line, if some file goes on so.
-    #[tactic(auto, unfolding(crate::specs::Machine::take_line))]
+    #[tactic(auto, unfolding(crate::specs::File::take_line))]
     fn take_line(&mut self, alloc: Global, number: u32, line: &[u8]) -> Result<bool, NoMemory>
         ensures { IfOk result
             (λ taken. Takes taken (take_line number line.now self.old.draft) self.old self.new) }

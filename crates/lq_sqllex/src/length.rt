@@ -71,7 +71,7 @@ fn length_of(dialect: Dialect, sort: LexemeSort, text: &[u8]) -> Option<usize>
 
 /// The number of bytes of the lexeme at the front of a text: None where it is a string, quoted name
 /// or comment that is not closed.
-#[tactic(auto, unfolding(lq_base::specs::SqlLexeme::length_at))]
+#[tactic(auto, unfolding(lq_base::specs::Sql::length_at))]
 pub fn length_at(dialect: Dialect, text: &[u8]) -> Option<usize>
     requires { 0 < length text.now }
     ensures value { result ≡ length_at dialect text.now }

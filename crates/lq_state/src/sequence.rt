@@ -18,7 +18,7 @@ impl Model for Sequence {
     ghost view = { λ s. record { start = s.start; step = s.step } };
 }
 
-#[tactic(auto, unfolding(lq_codec::specs::Database::sequence_codec))]
+#[tactic(auto, unfolding(lq_codec::specs::Tables::sequence_codec))]
 impl Coded for Sequence {
     ghost use Rattle.lq_codec.specs.Tables.{sequence_codec};
     ghost use Rattle.lq_codec.specs.State.{free};

@@ -71,7 +71,7 @@ impl Coded for State {
 
 impl State {
     /// The state whose bytes these are, all of them. None where they are no state's.
-    #[tactic(auto, unfolding(lq_codec::specs::Database::catalogue_of))]
+    #[tactic(auto, unfolding(lq_codec::specs::Tables::catalogue_of))]
     pub fn of_bytes(alloc: Global, bytes: &[u8]) -> Result<Option<State>, NoMemory>
         ensures { IfOk result (λ found. MatchOption found (catalogue_of bytes.now ≡ None)
             (λ state. catalogue_of bytes.now ≡ Some state)) }
@@ -89,7 +89,7 @@ impl State {
     }
 
     /// Its bytes.
-    #[tactic(auto, unfolding(lq_codec::specs::Database::bytes_of, lq_codec::specs::Database::can_be_written))]
+    #[tactic(auto, unfolding(lq_codec::specs::Tables::bytes_of, lq_codec::specs::Tables::can_be_written))]
     pub fn bytes(&self, alloc: Global) -> Result<Vec<u8>, NoMemory>
         ensures bytes { IfOk result (λ bytes. bytes.items ≡ bytes_of self.now) }
         ensures fits { OnOk result

@@ -23,7 +23,7 @@ impl Model for View {
     ghost view = { λ v. record { query = v.query; columns = v.columns } };
 }
 
-#[tactic(auto, unfolding(lq_codec::specs::Database::view_codec))]
+#[tactic(auto, unfolding(lq_codec::specs::Tables::view_codec))]
 impl Coded for View {
     ghost use Rattle.lq_codec.specs.Tables.{view_codec};
     ghost use Rattle.lq_state.specs.Shaped.{is_shaped_view};
@@ -39,7 +39,7 @@ impl Coded for View {
         }
     }
 
-    #[tactic(auto, unfolding(lq_codec::specs::Database::view_codec), using(crate::proofs::ShapedLemmas::first_fits))]
+    #[tactic(auto, unfolding(lq_codec::specs::Tables::view_codec), using(crate::proofs::ShapedLemmas::first_fits))]
     fn write(&self, to: &mut Vec<u8>) -> Result<(), NoMemory> {
         self.query.write(to)?;
         append_names(&self.columns, to)?;

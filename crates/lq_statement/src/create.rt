@@ -11,7 +11,7 @@ use lq_parse::query::query;
 use std::alloc::Global;
 
 // `INDEX q ON q (c)`
-#[tactic(auto, unfolding(lq_model::specs::SqlCreate::create_index))]
+#[tactic(auto, unfolding(lq_model::specs::SqlStatement::create_index))]
 fn create_index(
     alloc: Global,
     dialect: Dialect,
@@ -36,7 +36,7 @@ fn create_index(
 }
 
 // `VIEW q AS query`
-#[tactic(auto, unfolding(lq_model::specs::SqlCreate::create_view))]
+#[tactic(auto, unfolding(lq_model::specs::SqlStatement::create_view))]
 fn create_view(
     alloc: Global,
     dialect: Dialect,
@@ -56,7 +56,7 @@ fn create_view(
     })
 }
 
-#[tactic(auto, unfolding(lq_model::specs::SqlCreate::whole))]
+#[tactic(auto, unfolding(lq_model::specs::SqlStatement::whole))]
 fn whole(alloc: Global, words: &mut Words<'_>) -> Result<i128, ParseFault>
     ensures { Reads (spec.whole words.old) result words.new }
 {
@@ -66,7 +66,7 @@ fn whole(alloc: Global, words: &mut Words<'_>) -> Result<i128, ParseFault>
     }
 }
 
-#[tactic(auto, unfolding(lq_model::specs::SqlCreate::step))]
+#[tactic(auto, unfolding(lq_model::specs::SqlStatement::step))]
 fn step(alloc: Global, words: &mut Words<'_>) -> Result<i128, ParseFault>
     ensures { Reads (spec.step words.old) result words.new }
 {
@@ -78,7 +78,7 @@ fn step(alloc: Global, words: &mut Words<'_>) -> Result<i128, ParseFault>
 }
 
 // `q START WITH n INCREMENT BY n`
-#[tactic(auto, unfolding(lq_model::specs::SqlCreate::create_sequence))]
+#[tactic(auto, unfolding(lq_model::specs::SqlStatement::create_sequence))]
 fn create_sequence(
     alloc: Global,
     dialect: Dialect,
@@ -97,7 +97,7 @@ fn create_sequence(
 }
 
 /// What follows CREATE.
-#[tactic(auto, unfolding(lq_model::specs::SqlCreate::create))]
+#[tactic(auto, unfolding(lq_model::specs::SqlStatement::create))]
 pub fn create(
     alloc: Global,
     dialect: Dialect,

@@ -8,7 +8,7 @@ use lq_parse::cursor::Words;
 use lq_parse::part::{name, object};
 use std::alloc::Global;
 
-#[tactic(auto, unfolding(lq_model::specs::SqlDrop::drop_index))]
+#[tactic(auto, unfolding(lq_model::specs::SqlAlter::drop_index))]
 fn drop_index(
     alloc: Global,
     dialect: Dialect,
@@ -37,7 +37,7 @@ fn drop_index(
 }
 
 /// What follows DROP.
-#[tactic(auto, unfolding(lq_model::specs::SqlDrop::drop_object))]
+#[tactic(auto, unfolding(lq_model::specs::SqlAlter::drop_object))]
 pub fn drop_object(
     alloc: Global,
     dialect: Dialect,
@@ -66,7 +66,7 @@ pub fn drop_object(
 }
 
 /// What follows RENAME: `TABLE q TO q`.
-#[tactic(auto, unfolding(lq_model::specs::SqlDrop::rename_table))]
+#[tactic(auto, unfolding(lq_model::specs::SqlAlter::rename_table))]
 pub fn rename_table(alloc: Global, words: &mut Words<'_>) -> Result<Statement, ParseFault>
     ensures { Reads (spec.rename_table words.old) result words.new }
 {

@@ -16,7 +16,7 @@ fn one(alloc: Global, name: &Name) -> Result<Items<Name>, NoMemory>
 }
 
 /// The key that a column's clauses state.
-#[tactic(auto, unfolding(lq_model::specs::SqlColumn::column_key))]
+#[tactic(auto, unfolding(lq_model::specs::SqlTable::column_key))]
 pub fn column_key(
     alloc: Global,
     dialect: Dialect,
@@ -34,7 +34,7 @@ pub fn column_key(
 }
 
 /// The unique constraint that a column's clauses state.
-#[tactic(auto, unfolding(lq_model::specs::SqlColumn::column_unique))]
+#[tactic(auto, unfolding(lq_model::specs::SqlTable::column_unique))]
 pub fn column_unique(
     alloc: Global,
     table: &Name,
@@ -50,7 +50,7 @@ pub fn column_unique(
     Ok(Some(Unique { name, columns }))
 }
 
-#[tactic(auto, unfolding(lq_model::specs::SqlColumn::foreign_to))]
+#[tactic(auto, unfolding(lq_model::specs::SqlTable::foreign_to))]
 fn foreign_to(
     alloc: Global,
     table: &Name,
@@ -71,7 +71,7 @@ fn foreign_to(
 }
 
 /// The foreign key that a column's clauses state.
-#[tactic(auto, unfolding(lq_model::specs::SqlColumn::column_foreign))]
+#[tactic(auto, unfolding(lq_model::specs::SqlTable::column_foreign))]
 pub fn column_foreign(
     alloc: Global,
     table: &Name,

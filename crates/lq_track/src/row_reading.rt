@@ -78,7 +78,7 @@ fn joined(run: Run, details: Details) -> Tracked
     }
 }
 
-#[tactic(auto, unfolding(crate::specs::RowParts::run_in))]
+#[tactic(auto, unfolding(crate::specs::Database::run_in))]
 fn run_in(alloc: Global, values: &[Value]) -> Result<Option<Run>, NoMemory>
     ensures { IfOk result (λ run. run ≡ run_in values.now) }
 {
@@ -109,7 +109,7 @@ fn run_in(alloc: Global, values: &[Value]) -> Result<Option<Run>, NoMemory>
     }))
 }
 
-#[tactic(auto, unfolding(crate::specs::RowParts::details_in))]
+#[tactic(auto, unfolding(crate::specs::Database::details_in))]
 fn details_in(alloc: Global, values: &[Value]) -> Result<Option<Details>, NoMemory>
     ensures { IfOk result (λ details. details ≡ details_in values.now) }
 {

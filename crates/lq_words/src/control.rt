@@ -22,7 +22,7 @@ pub fn plain(alloc: Global, text: &str) -> Result<Text, NoMemory>
     Text::new(alloc, made.as_str())
 }
 
-#[tactic(auto, unfolding(crate::specs::Plain::plain))]
+#[tactic(auto, unfolding(crate::specs::Words::plain))]
 fn shown_all(alloc: Global, text: &str) -> Result<String, AllocError>
     ensures { IfOk result (λ made. string_bytes made ≡ plain text.now) }
 {
