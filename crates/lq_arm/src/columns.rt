@@ -39,7 +39,8 @@ pub fn repeats(alloc: Global, names: &[Name]) -> Result<bool, NoMemory>
 /// The names of the columns, for looking up.
 fn names_of<'a>(alloc: Global, columns: &'a [Column]) -> Result<BTreeSet<&'a Name>, NoMemory>
     ensures { IfOk result
-        (λ known. (n : Bytes) → has_name known n ≡ spaces.is_in n (map (λ c. c.name) columns.now)) }
+        (λ known. (n : Bytes)
+        → has_name known n ≡ spaces.is_in n (map (λ c. c.name) columns.now)) }
 {
     let mut known = BTreeSet::new(alloc);
     for column in columns {
@@ -66,7 +67,8 @@ pub fn lacks_column<'a>(
     names: &'a [Name],
 ) -> Result<bool, NoMemory>
     ensures { IfOk result (λ lacks.
-        lacks ≡ list_any (λ n. not (spaces.is_in n (map (λ c. c.name) columns.now))) names.now) }
+        lacks ≡ list_any (λ n. not (spaces.is_in n (map (λ c. c.name) columns.now)))
+        names.now) }
 {
     let known = names_of(alloc, columns)?;
     Ok(lacks_known(&known, names))

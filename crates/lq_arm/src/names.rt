@@ -58,7 +58,8 @@ pub fn is_unique_or_index(held: &Held, name: &Name) -> bool
 
 fn is_key_inside(table: &Name, held: &Held, name: &Name) -> bool
     ensures { result
-        ≡ list_any (λ k. is_named name.now (beside table.now k.name)) (key_list held.now.now.key) }
+        ≡ list_any (λ k. is_named name.now (beside table.now k.name))
+        (key_list held.now.now.key) }
 {
     match held.key() {
         Some(key) => is_placed(name, table, &key.name),

@@ -46,7 +46,8 @@ fn turn_by(
     requires undoable { is_undoable set.now ≡ true }
     ensures { IfOk result (λ turn.
         (options : Options)
-        → undo_by dialect any_meaning (identity_of row.now) (view options set.now) ≡ Some turn) }
+        → undo_by dialect any_meaning (identity_of row.now) (view options set.now)
+        ≡ Some turn) }
 {
     let made = undoing(alloc, dialect, set)?;
     let Some(statements) = made else {
@@ -68,7 +69,8 @@ fn turn_at(
     requires way { taken_back changelog.now.sets row.now ≡ Some (By place) }
     ensures { IfOk result (λ turn.
         (options : Options)
-        → undo_turn dialect any_meaning (views options changelog.now.sets) row.now ≡ Some turn) }
+        → undo_turn dialect any_meaning (views options changelog.now.sets) row.now
+        ≡ Some turn) }
 {
     let Some(set) = changelog.sets.get(place) else {
         unreachable!()
@@ -89,7 +91,8 @@ fn undo_turn(
     requires way { taken_back changelog.now.sets row.now ≡ Some way }
     ensures { IfOk result (λ turn.
         (options : Options)
-        → undo_turn dialect any_meaning (views options changelog.now.sets) row.now ≡ Some turn) }
+        → undo_turn dialect any_meaning (views options changelog.now.sets) row.now
+        ≡ Some turn) }
 {
     match way {
         TakenBack::Alone => {

@@ -41,7 +41,8 @@ pub fn rows_to_sync<'a>(
 ) -> Result<Items<Tracked>, NoMemory>
     requires moment { reading ≤ 253402300799999 }
     ensures rows { IfOk result
-        (λ made. made ≡ rows_to_sync reading (view_log options.now changelog.now).sets rows.now) }
+        (λ made. made
+        ≡ rows_to_sync reading (view_log options.now changelog.now).sets rows.now) }
     ensures dated { IfOk result (λ made. AreDated made) }
 {
     let index = index_of(alloc, rows)?;
@@ -106,7 +107,8 @@ fn has_no_row<'a>(options: &Options, index: &RowIndex<'a>, set: &'a ChangeSet) -
 }
 
 fn is_missing<'a>(index: &RowIndex<'a>, of: &'a Identity) -> bool
-    ensures { (rows : List Row) → HasRows rows index.now → result ≡ not (has_row rows of.now) }
+    ensures { (rows : List Row) → HasRows rows index.now
+        → result ≡ not (has_row rows of.now) }
 {
     row_at(index, of).is_none()
 }

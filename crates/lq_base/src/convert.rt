@@ -93,7 +93,8 @@ fn int_into(number: i128, kind: Kind) -> Result<Value, IntoFault>
 }
 
 fn truth_of_number(number: i128) -> Result<Value, IntoFault>
-    ensures { Goes (within_width Kind.Boolean (said_by_number Kind.Boolean (Literal.Int number))) result }
+    ensures { Goes (within_width Kind.Boolean (said_by_number Kind.Boolean (Literal.Int number)))
+        result }
 {
     if number == 0 {
         return Ok(Value::Bool(false));
@@ -114,7 +115,8 @@ fn fixed_into(units: i128, scale: u8, kind: Kind) -> Result<Value, IntoFault>
 }
 
 fn decimal_into(units: i128, scale: u8, digits: u8, places: u8) -> Result<Value, IntoFault>
-    ensures { Goes (within_width (Kind.Decimal digits places) (Some (with_decimals places units scale))) result }
+    ensures { Goes (within_width (Kind.Decimal digits places)
+        (Some (with_decimals places units scale))) result }
 {
     if places < scale {
         return Err(IntoFault::TooWide);
@@ -130,7 +132,8 @@ fn decimal_into(units: i128, scale: u8, digits: u8, places: u8) -> Result<Value,
 
 /// The number with so many more decimals, or None where it then has more digits than it may have.
 fn scaled(magnitude: u128, more: u8, digits: u8) -> Option<u128>
-    ensures value { result ≡ (if has_digits digits (magnitude * 10 ^ more) then Some (magnitude * 10 ^ more) else None) }
+    ensures value { result ≡ (if has_digits digits (magnitude * 10 ^ more) then Some
+        (magnitude * 10 ^ more) else None) }
     ensures bound { IfSome result (λ scaled. scaled < 10 ^ 38) }
 {
     if more == 0 {

@@ -81,7 +81,8 @@ fn has_byte(place: usize, byte: u8, text: &[u8]) -> bool
 
 fn day_of(text: &[u8]) -> Option<i64>
     ensures value { result ≡ day_of text.now }
-    ensures bound { IfSome result (λ day. (neg_ℤ (pos 719_162) ≤ℤ day) × (day ≤ℤ pos 2_932_896)) }
+    ensures bound { IfSome result (λ day. (neg_ℤ (pos 719_162) ≤ℤ day)
+        × (day ≤ℤ pos 2_932_896)) }
 {
     let year = digits_at(0, 4, text)?;
     let month = digits_at(5, 2, text)?;
@@ -91,7 +92,8 @@ fn day_of(text: &[u8]) -> Option<i64>
 
 fn day_number(year: u32, month: u32, day: u32) -> Option<i64>
     ensures value { result ≡ day_number year month day }
-    ensures bound { IfSome result (λ day. (neg_ℤ (pos 719_162) ≤ℤ day) × (day ≤ℤ pos 2_932_896)) }
+    ensures bound { IfSome result (λ day. (neg_ℤ (pos 719_162) ≤ℤ day)
+        × (day ≤ℤ pos 2_932_896)) }
 {
     if year < 1 || year > 9999 || month > 12 || day > 31 {
         return None;

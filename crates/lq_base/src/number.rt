@@ -16,8 +16,10 @@ use std::alloc::{AllocError, Global};
 /// The number that a text spells: `-?digits`, or `-?digits.digits`, with at most 38 digits. None
 /// where it spells none.
 pub fn read_number(text: &str) -> Option<Literal>
-    ensures spelled { (number : Literal) → (result ≡ Some number) ↔ SpellsNumber text.now number }
-    ensures none { (result ≡ None) ↔ ((number : Literal) → ¬ (SpellsNumber text.now number)) }
+    ensures spelled { (number : Literal)
+        → (result ≡ Some number) ↔ SpellsNumber text.now number }
+    ensures none { (result ≡ None) ↔ ((number : Literal)
+        → ¬ (SpellsNumber text.now number)) }
 {
     number_of(text.as_bytes())
 }
@@ -157,7 +159,8 @@ pub fn append_fixed(alloc: Global, units: i128, scale: u8, to: &mut Text) -> Res
 }
 
 fn push_last_digits(count: u8, number: u128, to: &mut String) -> Result<(), AllocError>
-    ensures { OnOk result (string_bytes to.new ≡ string_bytes to.old ++ last_digits count number) }
+    ensures { OnOk result (string_bytes to.new
+        ≡ string_bytes to.old ++ last_digits count number) }
 {
     if count == 0 {
         return Ok(());

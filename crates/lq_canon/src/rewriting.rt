@@ -78,7 +78,8 @@ fn append_atom(to: &mut Vec<u8>, text: &[u8]) -> Result<(), NoMemory>
 }
 
 fn append_uniform_text(to: &mut Vec<u8>, text: &[u8]) -> Result<(), NoMemory>
-    ensures { OnOk result (to.new.items ≡ to.old.items ++ (codes "t" ++ atom (uniform text.now))) }
+    ensures { OnOk result (to.new.items
+        ≡ to.old.items ++ (codes "t" ++ atom (uniform text.now))) }
 {
     let mut short = Vec::new(*to.allocator());
     append_uniform(&mut short, text)?;

@@ -184,7 +184,8 @@ impl<T: Drop> Chain<T> {
     /// Keeps the rows whose mark stands and takes the others out, or changes nothing.
     pub fn keep(&mut self, alloc: Global, marks: Vec<bool>) -> Result<(), NoMemory>
         requires { length marks.items ≡ length self.old.now }
-        ensures ok { OnOk result (self.new ≡ changed self.old (kept_rows marks.items self.old.now)) }
+        ensures ok { OnOk result (self.new
+            ≡ changed self.old (kept_rows marks.items self.old.now)) }
         ensures err { OnErr result (self.new ≡ self.old) }
     {
         self.begin()?;
@@ -294,7 +295,8 @@ impl<T: Drop> Chain<T> {
     /// A step of a changing call: another row comes to the place, or is handed back.
     fn put_in(&mut self, at: usize, by: T) -> Result<(), Refused<T>>
         requires { at < length self.old.now }
-        ensures ok { OnOk result (self.new ≡ history (slice_set self.old.now at by) self.old.past) }
+        ensures ok { OnOk result (self.new
+            ≡ history (slice_set self.old.now at by) self.old.past) }
         ensures err { OnErr result (self.new ≡ self.old) }
         ensures value { IfErr result (λ refused. refused.value ≡ by) }
     {
@@ -328,7 +330,8 @@ impl<T: Drop> Chain<T> {
     fn keep_or_take(&mut self, at: usize, mark: bool) -> Result<usize, NoMemory>
         requires { at < length self.old.now }
         ensures next { IfOk result (λ next. next ≡ cond mark (at + 1) at) }
-        ensures now { OnOk result (self.new.now ≡ cond mark self.old.now (remove self.old.now at)) }
+        ensures now { OnOk result (self.new.now
+            ≡ cond mark self.old.now (remove self.old.now at)) }
         ensures past { self.new.past ≡ self.old.past }
     {
         if mark {

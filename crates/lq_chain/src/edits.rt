@@ -14,7 +14,9 @@ pub fn undo_call<T: Drop>(links: &mut Links<T>, done: &mut Vec<Done>)
     ensures ties { Ties links.new }
     ensures sound { IsSound (state_of links.new) (reverse done.new.items) }
     ensures undo { AllUndo (state_of links.new) (reverse done.new.items) }
-    ensures past { rows (spots (state_of links.new)) ∷ pasts (state_of links.new) (reverse done.new.items) ≡ pasts (state_of links.old) (reverse done.old.items) }
+    ensures past { rows (spots (state_of links.new))
+        ∷ pasts (state_of links.new) (reverse done.new.items)
+        ≡ pasts (state_of links.old) (reverse done.old.items) }
 {
     while let Some(step) = done.pop() {
         if let Done::Begun = step {

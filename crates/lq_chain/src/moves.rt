@@ -48,7 +48,8 @@ pub fn replace<T: Drop>(links: &mut Links<T>, at: Spot, row: T) -> Result<Spot, 
     requires ties { Ties links.old }
     requires there { CanRelink (state_of links.old) at }
     ensures ties { Ties links.new }
-    ensures state { IfOk result (λ by. state_of links.new ≡ replaced_by (state_of links.old) at by row) }
+    ensures state { IfOk result (λ by. state_of links.new
+        ≡ replaced_by (state_of links.old) at by row) }
     ensures id { IfOk result (λ by. by.id ≡ length (state_of links.old).slots) }
     ensures err { OnErr result (links.new ≡ links.old) }
     ensures value { IfErr result (λ refused. refused.value ≡ row) }

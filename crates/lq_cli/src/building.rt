@@ -12,7 +12,8 @@ use std::alloc::{AllocError, Global};
 /// A command that takes the options of a form.
 pub fn command_for<'a>(alloc: Global, form: Form) -> Result<Command<'a>, AllocError>
     ensures { IfOk result (λ c. app_of c
-        ≡ command_of (rules_of (takes (map (λ w. w.now) form.required.now) (map (λ w. w.now) form.optional.now) form.defines))) }
+        ≡ command_of (rules_of (takes (map (λ w. w.now) form.required.now)
+        (map (λ w. w.now) form.optional.now) form.defines))) }
 {
     let mut command = bare(alloc);
     for name in form.required {

@@ -17,7 +17,8 @@ pub struct Form {
 impl Form {
     /// The options that a command takes.
     pub fn of(verb: Verb) -> Form
-        ensures { takes (map (λ w. w.now) result.required.now) (map (λ w. w.now) result.optional.now) result.defines
+        ensures { takes (map (λ w. w.now) result.required.now)
+            (map (λ w. w.now) result.optional.now) result.defines
             ≡ form_of verb }
     {
         match verb {
@@ -50,7 +51,8 @@ impl Form {
     }
 
     fn filtered_to(required: &'static [&'static str]) -> Form
-        ensures { takes (map (λ w. w.now) result.required.now) (map (λ w. w.now) result.optional.now) result.defines
+        ensures { takes (map (λ w. w.now) result.required.now)
+            (map (λ w. w.now) result.optional.now) result.defines
             ≡ filtered (map (λ w. w.now) required.entry.now) }
     {
         Form::new(required, &["context-filter", "label-filter"], true)

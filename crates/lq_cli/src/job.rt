@@ -71,7 +71,8 @@ fn rollback_to_date(given: &Chosen) -> Result<Job, WordsFault>
 }
 
 fn rollback_sql(alloc: Global, given: &Chosen) -> Result<Job, WordsFault>
-    ensures { Gives (option_map (λ target. Job.RollbackSql target) (only_target given.now)) result }
+    ensures { Gives (option_map (λ target. Job.RollbackSql target) (only_target given.now))
+        result }
 {
     Ok(Job::RollbackSql(only_target(alloc, given)?))
 }

@@ -35,7 +35,8 @@ pub fn read_words(alloc: Global, words: &[String]) -> Result<Line, WordsFault>
 /// The path of the database file that the words name: nothing where they are no command line.
 pub fn database_path(alloc: Global, words: &[String]) -> Result<Option<Text>, NoMemory>
     ensures { IfOk result (λ path. path
-        ≡ option_map (λ line. line.path) (line_of (map (λ word. string_bytes word) words.now))) }
+        ≡ option_map (λ line. line.path)
+        (line_of (map (λ word. string_bytes word) words.now))) }
 {
     match line_of(alloc, words) {
         Ok(line) => Ok(Some(line.path)),

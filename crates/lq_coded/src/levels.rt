@@ -85,8 +85,10 @@ fn turned_of(a: Boxed<Test>) -> Test
 #[cycle(reading)]
 fn and_in(alloc: Global, bytes: &[u8], levels: usize) -> Result<Option<(Test, &[u8])>, NoMemory>
     ensures { IfOk result (λ found. MatchOption found
-        ((mapped as_both in_both (both (test_codec levels) (test_codec levels))).read bytes.now ≡ None)
-        (λ next. (mapped as_both in_both (both (test_codec levels) (test_codec levels))).read bytes.now
+        ((mapped as_both in_both (both (test_codec levels) (test_codec levels))).read bytes.now
+        ≡ None)
+        (λ next. (mapped as_both in_both (both (test_codec levels) (test_codec levels))).read
+        bytes.now
         ≡ Some (next.0, next.1.now))) }
 {
     match two_in(alloc, bytes, levels)? {
@@ -98,8 +100,10 @@ fn and_in(alloc: Global, bytes: &[u8], levels: usize) -> Result<Option<(Test, &[
 #[cycle(reading)]
 fn or_in(alloc: Global, bytes: &[u8], levels: usize) -> Result<Option<(Test, &[u8])>, NoMemory>
     ensures { IfOk result (λ found. MatchOption found
-        ((mapped as_either in_either (both (test_codec levels) (test_codec levels))).read bytes.now ≡ None)
-        (λ next. (mapped as_either in_either (both (test_codec levels) (test_codec levels))).read bytes.now
+        ((mapped as_either in_either (both (test_codec levels) (test_codec levels))).read bytes.now
+        ≡ None)
+        (λ next. (mapped as_either in_either (both (test_codec levels) (test_codec levels))).read
+        bytes.now
         ≡ Some (next.0, next.1.now))) }
 {
     match two_in(alloc, bytes, levels)? {

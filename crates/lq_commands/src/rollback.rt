@@ -59,7 +59,8 @@ pub fn rollback<S: Store, P: SqlText>(
         CrashesIn given.options.dialect (rollback_script given target.now database) database
         (S.state store.old) (S.crashes store.old) (S.crashes store.new)) }
     ensures later { S.faults store.old ≤ S.faults store.new }
-    ensures disk { result ≡ Err status.DiskFault → Rose (S.faults store.old) (S.faults store.new) }
+    ensures disk { result ≡ Err status.DiskFault
+        → Rose (S.faults store.old) (S.faults store.new) }
 {
     let rows = checked_rows(alloc, &given, store)?;
     rollback_rows(alloc, given, target, rows.as_slice(), store, sql, prints)
@@ -97,7 +98,8 @@ fn rollback_rows<S: Store, P: SqlText>(
         CrashesIn given.options.dialect (rollback_script given target.now database) database
         (S.state store.old) (S.crashes store.old) (S.crashes store.new)) }
     ensures later { S.faults store.old ≤ S.faults store.new }
-    ensures disk { result ≡ Err status.DiskFault → Rose (S.faults store.old) (S.faults store.new) }
+    ensures disk { result ≡ Err status.DiskFault
+        → Rose (S.faults store.old) (S.faults store.new) }
 {
     let undone = check_target(rows, target)?;
     let ways = check_ways(alloc, &given, undone)?;
@@ -133,7 +135,8 @@ fn take_back<S: Store, P: SqlText>(
         CrashesIn given.options.dialect (taking_back given (reverse undone.now) database) database
         (S.state store.old) (S.crashes store.old) (S.crashes store.new)) }
     ensures later { S.faults store.old ≤ S.faults store.new }
-    ensures disk { result ≡ Err status.DiskFault → Rose (S.faults store.old) (S.faults store.new) }
+    ensures disk { result ≡ Err status.DiskFault
+        → Rose (S.faults store.old) (S.faults store.new) }
 {
     if undone.is_empty() {
         return no_turns(alloc, prints);
@@ -194,7 +197,8 @@ fn run<S: Store, P: SqlText>(
         (rollback_of given.options.dialect given.stamp (reverse source.turns) database) database
         (S.state store.old) (S.crashes store.old) (S.crashes store.new)) }
     ensures later { S.faults store.old ≤ S.faults store.new }
-    ensures disk { result ≡ Err status.DiskFault → Rose (S.faults store.old) (S.faults store.new) }
+    ensures disk { result ≡ Err status.DiskFault
+        → Rose (S.faults store.old) (S.faults store.new) }
 {
     let dialect = given.options.dialect;
     let Ran { source, end } = run_turns(alloc, dialect, given.stamp, source, store, sql);
@@ -210,7 +214,8 @@ fn ended(alloc: Global, outcome: Outcome, end: End, prints: bool) -> Result<Done
         → IfOk result (λ done. EndsRollback prints account done) }
     ensures fault { IfErr result IsFault }
     ensures ends { IfOk result (λ done. ends done.status ≡ true) }
-    ensures whole { IfOk result (λ done. is_finished done.status ≡ true → is_whole end ≡ true) }
+    ensures whole { IfOk result (λ done. is_finished done.status ≡ true
+        → is_whole end ≡ true) }
     ensures full { IfOk result (λ done. TellsFull end done.status) }
     ensures disk { result ≡ Err status.DiskFault → is_disk_end end ≡ true }
 {
@@ -244,7 +249,8 @@ fn text_of(
 ) -> Result<Option<Text>, NoMemory>
     requires ends { ends by.now ≡ true }
     ensures { IfOk result (λ text.
-        is_finished by.now ≡ true → text ≡ Some (rollback_output prints happened.now printed.now)) }
+        is_finished by.now ≡ true
+        → text ≡ Some (rollback_output prints happened.now printed.now)) }
 {
     if by.has_output() {
         let text = output(alloc, prints, happened, printed)?;

@@ -110,14 +110,17 @@ pub fn run_turns<T: Source + Drop, S: Store, P: SqlText>(
         (S.state store.old) (S.crashes store.old) (S.crashes store.new)) }
     ensures tells { OnIts dialect (S.state store.old) (λ database.
         (told : T.Told)
-        → MayTurn dialect T.meaning stamp (T.left source) (T.way source dialect stamp) database told
+        → MayTurn dialect T.meaning stamp (T.left source) (T.way source dialect stamp) database
+        told
         → TellsTo (T.way result.source dialect stamp told) result.end) }
     ensures stops { OnIts dialect (S.state store.old) (λ database.
         (told : T.Told)
-        → MayTurn dialect T.meaning stamp (T.left source) (T.way source dialect stamp) database told
+        → MayTurn dialect T.meaning stamp (T.left source) (T.way source dialect stamp) database
+        told
         → YieldedAt T.way dialect stamp told result.end) }
     ensures later { S.faults store.old ≤ S.faults store.new }
-    ensures rose { is_disk_end result.end ≡ true → Rose (S.faults store.old) (S.faults store.new) }
+    ensures rose { is_disk_end result.end ≡ true
+        → Rose (S.faults store.old) (S.faults store.new) }
 {
     let mut runner = Runner::new(alloc, dialect, stamp, Stopping { source });
     let end = run_command(&mut runner, SESSION, store, sql);
@@ -192,7 +195,8 @@ pub fn run_status(
     ensures ends { IfOk result (λ status. ends status ≡ true) }
     ensures whole { IfOk result (λ status. is_finished status ≡ true → is_whole end ≡ true) }
     ensures tells { IfOk result
-        (λ status. is_finished status ≡ true → status ≡ status_by (stop_by halted stopped_at end)) }
+        (λ status. is_finished status ≡ true
+        → status ≡ status_by (stop_by halted stopped_at end)) }
     ensures full { IfOk result (TellsFull end) }
     ensures disk { result ≡ Err DiskFault → is_disk_end end ≡ true }
     ensures own { IfErr result (FailsWith end) }

@@ -67,7 +67,8 @@ pub fn sync<S: Store, P: SqlText>(
         CrashesIn given.options.dialect (sync_script given database) database (S.state store.old)
         (S.crashes store.old) (S.crashes store.new)) }
     ensures later { S.faults store.old ≤ S.faults store.new }
-    ensures disk { result ≡ Err status.DiskFault → Rose (S.faults store.old) (S.faults store.new) }
+    ensures disk { result ≡ Err status.DiskFault
+        → Rose (S.faults store.old) (S.faults store.new) }
 {
     let rows = checked_rows(alloc, &given, store)?;
     let before = rows.as_slice();
@@ -116,7 +117,8 @@ fn insert<S: Store, P: SqlText>(
         CrashesIn given.options.dialect (sync_script given database) database (S.state store.old)
         (S.crashes store.old) (S.crashes store.new)) }
     ensures later { S.faults store.old ≤ S.faults store.new }
-    ensures disk { result ≡ Err status.DiskFault → Rose (S.faults store.old) (S.faults store.new) }
+    ensures disk { result ≡ Err status.DiskFault
+        → Rose (S.faults store.old) (S.faults store.new) }
 {
     if made.is_empty() {
         return no_rows(alloc);
@@ -166,7 +168,8 @@ fn insert_some<S: Store, P: SqlText>(
         CrashesIn given.options.dialect (sync_script given database) database (S.state store.old)
         (S.crashes store.old) (S.crashes store.new)) }
     ensures later { S.faults store.old ≤ S.faults store.new }
-    ensures disk { result ≡ Err status.DiskFault → Rose (S.faults store.old) (S.faults store.new) }
+    ensures disk { result ≡ Err status.DiskFault
+        → Rose (S.faults store.old) (S.faults store.new) }
 {
     let rows = made.as_slice();
     let happened = marked(alloc, rows)?;
@@ -231,10 +234,12 @@ fn ended(
     requires stopped { NamesStop end None of }
     ensures fault { IfErr result IsFault }
     ensures ends { IfOk result (λ done. ends done.status ≡ true) }
-    ensures whole { IfOk result (λ done. is_finished done.status ≡ true → is_whole end ≡ true) }
+    ensures whole { IfOk result (λ done. is_finished done.status ≡ true
+        → is_whole end ≡ true) }
     ensures full { IfOk result (λ done. TellsFull end done.status) }
     ensures tells { IfOk result
-        (λ done. is_finished done.status ≡ true → done.status ≡ status_by (stop_by None of end)) }
+        (λ done. is_finished done.status ≡ true
+        → done.status ≡ status_by (stop_by None of end)) }
     ensures out { IfOk result (λ done. done.out ≡ sync_out done.status happened.now) }
     ensures quiet { IfOk result IsQuiet }
     ensures disk { result ≡ Err status.DiskFault → is_disk_end end ≡ true }

@@ -67,7 +67,8 @@ pub fn update<S: Store, P: SqlText>(
         CrashesIn given.options.dialect (update_script given database) database (S.state store.old)
         (S.crashes store.old) (S.crashes store.new)) }
     ensures later { S.faults store.old ≤ S.faults store.new }
-    ensures disk { result ≡ Err status.DiskFault → Rose (S.faults store.old) (S.faults store.new) }
+    ensures disk { result ≡ Err status.DiskFault
+        → Rose (S.faults store.old) (S.faults store.new) }
 {
     let rows = checked_rows(alloc, &given, store)?;
     let own = check_own(alloc, &given, store, rows.as_slice())?;
@@ -108,7 +109,8 @@ pub fn update_on<S: Store, P: SqlText>(
         CrashesIn given.options.dialect (sets_script given database) database (S.state store.old)
         (S.crashes store.old) (S.crashes store.new)) }
     ensures later { S.faults store.old ≤ S.faults store.new }
-    ensures disk { result ≡ Err status.DiskFault → Rose (S.faults store.old) (S.faults store.new) }
+    ensures disk { result ≡ Err status.DiskFault
+        → Rose (S.faults store.old) (S.faults store.new) }
 {
     let work = work_of(alloc, &given.options, given.changelog.get(), rows)?;
     if work.is_empty() {
@@ -161,7 +163,8 @@ fn run<S: Store, P: SqlText>(
         CrashesIn given.options.dialect (sets_script given database) database (S.state store.old)
         (S.crashes store.old) (S.crashes store.new)) }
     ensures later { S.faults store.old ≤ S.faults store.new }
-    ensures disk { result ≡ Err status.DiskFault → Rose (S.faults store.old) (S.faults store.new) }
+    ensures disk { result ≡ Err status.DiskFault
+        → Rose (S.faults store.old) (S.faults store.new) }
 {
     let Given {
         changelog,
@@ -207,7 +210,8 @@ fn ended(alloc: Global, outcome: Outcome, end: End, prints: bool) -> Result<Done
     ensures own { IfOk result (λ done. done.own ≡ None) }
     ensures fault { IfErr result IsFault }
     ensures ends { IfOk result (λ done. ends done.status ≡ true) }
-    ensures whole { IfOk result (λ done. is_finished done.status ≡ true → is_whole end ≡ true) }
+    ensures whole { IfOk result (λ done. is_finished done.status ≡ true
+        → is_whole end ≡ true) }
     ensures full { IfOk result (λ done. TellsFull end done.status) }
     ensures disk { result ≡ Err status.DiskFault → is_disk_end end ≡ true }
 {
@@ -260,7 +264,8 @@ fn output(
     not_fresh: u64,
     printed: &[Printed],
 ) -> Result<Text, NoMemory>
-    ensures { IfOk result (λ text. text ≡ update_output prints happened.now not_fresh printed.now) }
+    ensures { IfOk result (λ text. text
+        ≡ update_output prints happened.now not_fresh printed.now) }
 {
     if prints {
         sql_text(alloc, false, printed)

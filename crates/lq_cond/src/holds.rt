@@ -127,7 +127,8 @@ fn has_unique<K: Look>(look: &K, table: &Name, unique: &Name) -> bool
 }
 
 fn has_foreign_key<K: Look>(look: &K, table: &Name, foreign: &Name) -> bool
-    ensures { result ≡ has table.now (foreign_key_at (K.catalogue look.now) table.now foreign.now) }
+    ensures { result ≡ has table.now (foreign_key_at (K.catalogue look.now) table.now
+        foreign.now) }
 {
     !is_tracking(table) && look.foreign_key(table, foreign).is_some()
 }

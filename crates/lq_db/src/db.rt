@@ -66,7 +66,8 @@ impl<D: Disk, P: SqlText + Drop, E: Executor + Drop> Db<D, P, E> {
         ensures catalogue { IfOk result (λ db.
             IfSome (D.told disk)
             (λ bytes. catalogue_of dialect limit bytes ≡ Ok (kept (E.held (engine_in db))))) }
-        ensures clean { IfOk result (λ db. is_clean dialect (kept (E.held (engine_in db))) ≡ true) }
+        ensures clean { IfOk result (λ db. is_clean dialect (kept (E.held (engine_in db)))
+            ≡ true) }
         ensures told { MatchResult result (λ db. D.told (disk_in db) ≡ D.told disk)
             (λ refused. D.told refused.disk ≡ D.told disk) }
 
@@ -129,11 +130,13 @@ impl<D: Disk, P: SqlText + Drop, E: Executor + Drop> Db<D, P, E> {
     /// Writes the state of the database, where a transaction stands behind the last one, and answers
     /// the size of its entry; otherwise it writes nothing, and answers 0.
     pub fn snapshot<W: States<Engine = E>>(&mut self, states: &W) -> Result<u64, StoreFault>
-        requires valid { IsValid P.dialect (D.told (disk_in self.old)) (D.crashes (disk_in self.old))
+        requires valid { IsValid P.dialect (D.told (disk_in self.old))
+            (D.crashes (disk_in self.old))
             (E.held (engine_in self.old)) self.old }
         requires live { IsTrue
             (state (D.told (disk_in self.old)) (E.held (engine_in self.old)) self.old).live }
-        requires closed { (state (D.told (disk_in self.old)) (E.held (engine_in self.old)) self.old).begun
+        requires closed { (state (D.told (disk_in self.old)) (E.held (engine_in self.old))
+            self.old).begun
             ≡ None }
         ensures does { MaySnapshot
             (state (D.told (disk_in self.old)) (E.held (engine_in self.old)) self.old) result

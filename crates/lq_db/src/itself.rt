@@ -53,12 +53,19 @@ fn keep_ran<D: Disk, E: Executor>(
 ) -> Result<(), StoreFault>
     requires whole { IsWhole (D.told (disk_of journal.old)) (D.crashes (disk_of journal.old))
         journal.old }
-    ensures does { MayKeep dialect (entries_of begun.old.entry ++ Texts (text.now ∷ []) ∷ []) (log_of (D.told (disk_of journal.old)) journal.old) (side (E.held engine.old) begun.old lock.old) result
-        (log_of (D.told (disk_of journal.new)) journal.new) (side (E.held engine.new) begun.new lock.new) }
+    ensures does { MayKeep dialect (entries_of begun.old.entry ++ Texts (text.now ∷ []) ∷ [])
+        (log_of (D.told (disk_of journal.old)) journal.old)
+        (side (E.held engine.old) begun.old lock.old) result
+        (log_of (D.told (disk_of journal.new)) journal.new)
+        (side (E.held engine.new) begun.new lock.new) }
     ensures whole { UnlessFailed result
         (IsWhole (D.told (disk_of journal.new)) (D.crashes (disk_of journal.new)) journal.new) }
-    ensures crash { LeavesFront (log_of (D.told (disk_of journal.old)) journal.old).entries (entries_of begun.old.entry ++ Texts (text.now ∷ []) ∷ [])
-        (crashes_in (dialect_of journal.old) (limit_of journal.old) (D.crashes (disk_of journal.old))) (crashes_in (dialect_of journal.new) (limit_of journal.new) (D.crashes (disk_of journal.new))) }
+    ensures crash { LeavesFront (log_of (D.told (disk_of journal.old)) journal.old).entries
+        (entries_of begun.old.entry ++ Texts (text.now ∷ []) ∷ [])
+        (crashes_in (dialect_of journal.old) (limit_of journal.old)
+        (D.crashes (disk_of journal.old)))
+        (crashes_in (dialect_of journal.new) (limit_of journal.new)
+        (D.crashes (disk_of journal.new))) }
     ensures later { D.faults (disk_of journal.old) ≤ D.faults (disk_of journal.new) }
     ensures rose { result ≡ Err StoreFault.Disk
         → Rose (D.faults (disk_of journal.old)) (D.faults (disk_of journal.new)) }
@@ -101,12 +108,20 @@ pub fn run_itself<D: Disk, E: Executor>(
         journal.old }
     requires statement { is_statement (E.held engine.old).dialect statement.now ≡ true }
     requires dialect { (E.held engine.old).dialect ≡ dialect }
-    ensures does { MayRunItself dialect text.now (step by dialect statement.now (E.held engine.old).now) (log_of (D.told (disk_of journal.old)) journal.old) (side (E.held engine.old) begun.old lock.old) result
-        (log_of (D.told (disk_of journal.new)) journal.new) (side (E.held engine.new) begun.new lock.new) }
+    ensures does { MayRunItself dialect text.now
+        (step by dialect statement.now (E.held engine.old).now)
+        (log_of (D.told (disk_of journal.old)) journal.old)
+        (side (E.held engine.old) begun.old lock.old) result
+        (log_of (D.told (disk_of journal.new)) journal.new)
+        (side (E.held engine.new) begun.new lock.new) }
     ensures whole { UnlessFailed result
         (IsWhole (D.told (disk_of journal.new)) (D.crashes (disk_of journal.new)) journal.new) }
-    ensures crash { LeavesFront (log_of (D.told (disk_of journal.old)) journal.old).entries (itself_entries text.now (step by dialect statement.now (E.held engine.old).now) begun.old)
-        (crashes_in (dialect_of journal.old) (limit_of journal.old) (D.crashes (disk_of journal.old))) (crashes_in (dialect_of journal.new) (limit_of journal.new) (D.crashes (disk_of journal.new))) }
+    ensures crash { LeavesFront (log_of (D.told (disk_of journal.old)) journal.old).entries
+        (itself_entries text.now (step by dialect statement.now (E.held engine.old).now) begun.old)
+        (crashes_in (dialect_of journal.old) (limit_of journal.old)
+        (D.crashes (disk_of journal.old)))
+        (crashes_in (dialect_of journal.new) (limit_of journal.new)
+        (D.crashes (disk_of journal.new))) }
     ensures later { D.faults (disk_of journal.old) ≤ D.faults (disk_of journal.new) }
     ensures rose { result ≡ Err StoreFault.Disk
         → Rose (D.faults (disk_of journal.old)) (D.faults (disk_of journal.new)) }

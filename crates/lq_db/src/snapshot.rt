@@ -53,8 +53,10 @@ pub fn append_state<D: Disk, E: Executor, W: States<Engine = E>>(
         (log_of (D.told (disk_of to.old)) to.old) result (log_of (D.told (disk_of to.new)) to.new) }
     ensures whole { UnlessFailed result
         (IsWhole (D.told (disk_of to.new)) (D.crashes (disk_of to.new)) to.new) }
-    ensures crash { LeavesFront (log_of (D.told (disk_of to.old)) to.old).entries (stated (E.held engine.now).now)
-        (crashes_in (dialect_of to.old) (limit_of to.old) (D.crashes (disk_of to.old))) (crashes_in (dialect_of to.new) (limit_of to.new) (D.crashes (disk_of to.new))) }
+    ensures crash { LeavesFront (log_of (D.told (disk_of to.old)) to.old).entries
+        (stated (E.held engine.now).now)
+        (crashes_in (dialect_of to.old) (limit_of to.old) (D.crashes (disk_of to.old)))
+        (crashes_in (dialect_of to.new) (limit_of to.new) (D.crashes (disk_of to.new))) }
     ensures later { D.faults (disk_of to.old) ≤ D.faults (disk_of to.new) }
     ensures rose { result ≡ Err StoreFault.Disk
         → Rose (D.faults (disk_of to.old)) (D.faults (disk_of to.new)) }

@@ -63,7 +63,8 @@ fn left(
     rows: &Chain<Row>,
 ) -> Result<Vec<bool>, NoMemory>
     ensures { IfOk result
-        (λ marks. marks.items ≡ map (λ row. not (takes test.now columns.now row)) rows.now.now) }
+        (λ marks. marks.items
+        ≡ map (λ row. not (takes test.now columns.now row)) rows.now.now) }
 {
     let mut marks = Vec::new(alloc);
     for row in rows.iter() {

@@ -74,7 +74,8 @@ pub fn taken(
     columns: &[Column],
 ) -> Result<Vec<bool>, NoMemory>
     ensures { IfOk result (λ marks.
-        marks.items ≡ flat_map (taken_in table.now test.now columns.now) (tables_of entries.now)) }
+        marks.items ≡ flat_map (taken_in table.now test.now columns.now)
+        (tables_of entries.now)) }
 {
     let mut marks = Vec::new(alloc);
     for entry in entries {

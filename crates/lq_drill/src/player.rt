@@ -61,7 +61,8 @@ pub trait Player {
         ensures owns { (lock : Lock)
             → (standing self.new).owns lock
             → (standing self.old).owns lock }
-        ensures faulted { (standing self.old).faulted ≡ true → (standing self.new).faulted ≡ true }
+        ensures faulted { (standing self.old).faulted ≡ true
+            → (standing self.new).faulted ≡ true }
         ensures met { HasMet failed session (standing self.new) }
         ensures ends { EndsBy failed (standing self.new) result }
         ensures moves { Moves failed session (standing self.old) (standing self.new)
@@ -70,7 +71,8 @@ pub trait Player {
         ensures crash { MovesSafely failed session (standing self.old) (standing self.new)
             (S.state store.old) (S.crashes store.old) (S.crashes store.new) }
         ensures later { S.faults store.old ≤ S.faults store.new }
-        ensures rose { result ≡ Err fault.Disk → Rose (S.faults store.old) (S.faults store.new) };
+        ensures rose { result ≡ Err fault.Disk
+            → Rose (S.faults store.old) (S.faults store.new) };
 
     /// What it took is held.
     ghost held: { (player : Self) (lock : Lock) → (standing player).owns lock → lock.locked ≡ true };

@@ -144,7 +144,8 @@ fn users_key_named(table: &Name, held: &Held) -> bool
 
 fn users_within_named(table: &Name, held: &Held) -> bool
     ensures { result
-        ≡ (not (is_tracking_table table.now) && list_any is_tracking (names_within held.now.now)) }
+        ≡ (not (is_tracking_table table.now) && list_any is_tracking
+        (names_within held.now.now)) }
 {
     !is_tracking_table(table) & within_named(held)
 }
@@ -171,7 +172,8 @@ fn one_key(entries: &[(Name, Held)]) -> bool
 
 fn one_within(entries: &[(Name, Held)]) -> bool
     ensures { result
-        ≡ list_any (λ e. not (is_tracking_table e.0) && list_any is_tracking (names_within e.1.now))
+        ≡ list_any (λ e. not (is_tracking_table e.0) && list_any is_tracking
+        (names_within e.1.now))
         entries.now }
 {
     entries
@@ -202,7 +204,8 @@ fn one_sequence(sought: Sought, entries: &[(Name, Sequence)]) -> bool
 #[tactic(auto, using(lq_model::proofs::Lists::any_mapped))]
 fn table_named(sought: Sought, parts: &Parts) -> bool
     ensures { result
-        ≡ list_any (λ e. not (is_tracking_table e.0) && is_sought sought e.0) parts.now.now.tables }
+        ≡ list_any (λ e. not (is_tracking_table e.0) && is_sought sought e.0)
+        parts.now.now.tables }
 {
     one_table(sought, parts.tables())
 }

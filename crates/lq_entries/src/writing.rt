@@ -18,12 +18,15 @@ pub fn append_one<D: Disk, B: Encoded>(
     room: Room,
 ) -> Result<(), AppendFault>
     requires whole { IsWhole (D.told (disk_of to.old)) (D.crashes (disk_of to.old)) to.old }
-    ensures does { MayAppend room (as_entry (B.says entry.now) ∷ []) (log_of (D.told (disk_of to.old)) to.old) result
+    ensures does { MayAppend room (as_entry (B.says entry.now) ∷ [])
+        (log_of (D.told (disk_of to.old)) to.old) result
         (log_of (D.told (disk_of to.new)) to.new) }
     ensures whole { UnlessDisk result
         (IsWhole (D.told (disk_of to.new)) (D.crashes (disk_of to.new)) to.new) }
-    ensures crash { LeavesFront (log_of (D.told (disk_of to.old)) to.old).entries (as_entry (B.says entry.now) ∷ [])
-        (crashes_in (dialect_of to.old) (limit_of to.old) (D.crashes (disk_of to.old))) (crashes_in (dialect_of to.new) (limit_of to.new) (D.crashes (disk_of to.new))) }
+    ensures crash { LeavesFront (log_of (D.told (disk_of to.old)) to.old).entries
+        (as_entry (B.says entry.now) ∷ [])
+        (crashes_in (dialect_of to.old) (limit_of to.old) (D.crashes (disk_of to.old)))
+        (crashes_in (dialect_of to.new) (limit_of to.new) (D.crashes (disk_of to.new))) }
     ensures later { D.faults (disk_of to.old) ≤ D.faults (disk_of to.new) }
     ensures rose { result ≡ Err AppendFault.Disk
         → Rose (D.faults (disk_of to.old)) (D.faults (disk_of to.new)) }
@@ -49,8 +52,10 @@ pub fn append_open<D: Disk>(
         result (log_of (D.told (disk_of to.new)) to.new) }
     ensures whole { UnlessDisk result
         (IsWhole (D.told (disk_of to.new)) (D.crashes (disk_of to.new)) to.new) }
-    ensures crash { LeavesFront (log_of (D.told (disk_of to.old)) to.old).entries (entries_of entry.now)
-        (crashes_in (dialect_of to.old) (limit_of to.old) (D.crashes (disk_of to.old))) (crashes_in (dialect_of to.new) (limit_of to.new) (D.crashes (disk_of to.new))) }
+    ensures crash { LeavesFront (log_of (D.told (disk_of to.old)) to.old).entries
+        (entries_of entry.now)
+        (crashes_in (dialect_of to.old) (limit_of to.old) (D.crashes (disk_of to.old)))
+        (crashes_in (dialect_of to.new) (limit_of to.new) (D.crashes (disk_of to.new))) }
     ensures later { D.faults (disk_of to.old) ≤ D.faults (disk_of to.new) }
     ensures rose { result ≡ Err AppendFault.Disk
         → Rose (D.faults (disk_of to.old)) (D.faults (disk_of to.new)) }
@@ -64,7 +69,8 @@ pub fn append_open<D: Disk>(
 // What the two take of a journal together.
 #[tactic(auto, using(crate::proofs::Logs::texts_size))]
 fn size_of_both(first: &Option<EncodedEntry>, second: &EncodedEntry) -> Option<u64>
-    ensures { IfSome result (λ size. size ≡ size_of_all (entries_of first.now ++ Texts second.now ∷ [])) }
+    ensures { IfSome result (λ size. size
+        ≡ size_of_all (entries_of first.now ++ Texts second.now ∷ [])) }
 {
     match first {
         None => Some(second.size()),
@@ -101,8 +107,10 @@ pub fn append_both<D: Disk>(
         (log_of (D.told (disk_of to.old)) to.old) result (log_of (D.told (disk_of to.new)) to.new) }
     ensures whole { UnlessFailed result
         (IsWhole (D.told (disk_of to.new)) (D.crashes (disk_of to.new)) to.new) }
-    ensures crash { LeavesFront (log_of (D.told (disk_of to.old)) to.old).entries (entries_of first.now ++ Texts second.now ∷ [])
-        (crashes_in (dialect_of to.old) (limit_of to.old) (D.crashes (disk_of to.old))) (crashes_in (dialect_of to.new) (limit_of to.new) (D.crashes (disk_of to.new))) }
+    ensures crash { LeavesFront (log_of (D.told (disk_of to.old)) to.old).entries
+        (entries_of first.now ++ Texts second.now ∷ [])
+        (crashes_in (dialect_of to.old) (limit_of to.old) (D.crashes (disk_of to.old)))
+        (crashes_in (dialect_of to.new) (limit_of to.new) (D.crashes (disk_of to.new))) }
     ensures later { D.faults (disk_of to.old) ≤ D.faults (disk_of to.new) }
     ensures rose { result ≡ Err StoreFault.Disk
         → Rose (D.faults (disk_of to.old)) (D.faults (disk_of to.new)) }
@@ -164,13 +172,17 @@ fn append_each<D: Disk>(
     room: Room,
 ) -> Result<(), AppendFault>
     requires whole { IsWhole (D.told (disk_of to.old)) (D.crashes (disk_of to.old)) to.old }
-    requires room { is_full (end_of room (limit_of to.old)) (used_of to.old) (of_texts entries.now) ≡ false }
-    ensures does { MayAppend room (of_texts entries.now) (log_of (D.told (disk_of to.old)) to.old) result
+    requires room { is_full (end_of room (limit_of to.old)) (used_of to.old) (of_texts entries.now)
+        ≡ false }
+    ensures does { MayAppend room (of_texts entries.now) (log_of (D.told (disk_of to.old)) to.old)
+        result
         (log_of (D.told (disk_of to.new)) to.new) }
     ensures whole { UnlessDisk result
         (IsWhole (D.told (disk_of to.new)) (D.crashes (disk_of to.new)) to.new) }
-    ensures crash { LeavesFront (log_of (D.told (disk_of to.old)) to.old).entries (of_texts entries.now)
-        (crashes_in (dialect_of to.old) (limit_of to.old) (D.crashes (disk_of to.old))) (crashes_in (dialect_of to.new) (limit_of to.new) (D.crashes (disk_of to.new))) }
+    ensures crash { LeavesFront (log_of (D.told (disk_of to.old)) to.old).entries
+        (of_texts entries.now)
+        (crashes_in (dialect_of to.old) (limit_of to.old) (D.crashes (disk_of to.old)))
+        (crashes_in (dialect_of to.new) (limit_of to.new) (D.crashes (disk_of to.new))) }
     ensures later { D.faults (disk_of to.old) ≤ D.faults (disk_of to.new) }
     ensures rose { result ≡ Err AppendFault.Disk
         → Rose (D.faults (disk_of to.old)) (D.faults (disk_of to.new)) }
@@ -194,12 +206,15 @@ pub fn append_all<D: Disk>(
 ) -> Result<(), AppendFault>
     requires whole { IsWhole (D.told (disk_of to.old)) (D.crashes (disk_of to.old)) to.old }
     requires size { size ≡ size_of_all (of_texts entries.now) }
-    ensures does { MayAppend room (of_texts entries.now) (log_of (D.told (disk_of to.old)) to.old) result
+    ensures does { MayAppend room (of_texts entries.now) (log_of (D.told (disk_of to.old)) to.old)
+        result
         (log_of (D.told (disk_of to.new)) to.new) }
     ensures whole { UnlessDisk result
         (IsWhole (D.told (disk_of to.new)) (D.crashes (disk_of to.new)) to.new) }
-    ensures crash { LeavesFront (log_of (D.told (disk_of to.old)) to.old).entries (of_texts entries.now)
-        (crashes_in (dialect_of to.old) (limit_of to.old) (D.crashes (disk_of to.old))) (crashes_in (dialect_of to.new) (limit_of to.new) (D.crashes (disk_of to.new))) }
+    ensures crash { LeavesFront (log_of (D.told (disk_of to.old)) to.old).entries
+        (of_texts entries.now)
+        (crashes_in (dialect_of to.old) (limit_of to.old) (D.crashes (disk_of to.old)))
+        (crashes_in (dialect_of to.new) (limit_of to.new) (D.crashes (disk_of to.new))) }
     ensures later { D.faults (disk_of to.old) ≤ D.faults (disk_of to.new) }
     ensures rose { result ≡ Err AppendFault.Disk
         → Rose (D.faults (disk_of to.old)) (D.faults (disk_of to.new)) }

@@ -47,7 +47,8 @@ fn joined(
     words: &[Word],
     levels: usize,
 ) -> Result<Expr, ExprFault>
-    ensures { Gives (spec.joined operator (spec.tighter operator (spec.factor levels)) words.now) result }
+    ensures { Gives (spec.joined operator (spec.tighter operator (spec.factor levels)) words.now)
+        result }
 {
     let mut parts = Items::new(alloc);
     let mut left = Some(words);

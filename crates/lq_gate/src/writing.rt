@@ -46,17 +46,23 @@ pub fn write_entry<D: Disk, B: Encoded>(
     ensures stands { OnOk result
         (IfSome (D.told disk.new)
         (Stands true ending.dialect ending.limit (ending.used + size_of (B.says entry.now)))) }
-    ensures added { OnOk result (option_map (journal_of ending.dialect ending.limit) (D.told disk.new)
-        ≡ option_map (with_last ending.used (B.says entry.now)) (option_map (journal_of ending.dialect ending.limit) (D.told disk.old))) }
+    ensures added { OnOk result (option_map (journal_of ending.dialect ending.limit)
+        (D.told disk.new)
+        ≡ option_map (with_last ending.used (B.says entry.now))
+        (option_map (journal_of ending.dialect ending.limit) (D.told disk.old))) }
 
     // One that fails leaves the entries before it, with the new one or without.
-    ensures failed { OnErr result (IsSameOrMore ending.used (B.says entry.now) (option_map (journal_of ending.dialect ending.limit) (D.told disk.old))
+    ensures failed { OnErr result (IsSameOrMore ending.used (B.says entry.now)
+        (option_map (journal_of ending.dialect ending.limit) (D.told disk.old))
         (option_map (journal_of ending.dialect ending.limit) (D.told disk.new))) }
 
     // So does a crash at any moment of it, where all was on the disk before.
     ensures durable { OnOk result (Settled (D.told disk.new) (D.crashes disk.new)) }
-    ensures any_moment { Settled (D.told disk.old) (D.crashes disk.old) → IfSome (D.told disk.old) (λ before.
-        LeavesOnly (D.crashes disk.old) (D.crashes disk.new) (StandsForSameOrMore ending.dialect ending.limit ending.used (B.says entry.now) (journal_of ending.dialect ending.limit before))) }
+    ensures any_moment { Settled (D.told disk.old) (D.crashes disk.old)
+        → IfSome (D.told disk.old) (λ before.
+        LeavesOnly (D.crashes disk.old) (D.crashes disk.new)
+        (StandsForSameOrMore ending.dialect ending.limit ending.used (B.says entry.now)
+        (journal_of ending.dialect ending.limit before))) }
     ensures faults { CountsFault result (D.faults disk.old) (D.faults disk.new) }
 {
     let written = entry.bytes();

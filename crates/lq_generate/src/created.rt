@@ -145,7 +145,8 @@ fn constraints_map(
     column: &Column,
 ) -> Result<Node, NoMemory>
     ensures { IfOk result
-        (λ node. node ≡ map_node (constraints_rows dialect (option_copied key.entry) column.now)) }
+        (λ node. node ≡ map_node (constraints_rows dialect (option_copied key.entry)
+        column.now)) }
 {
     let firm = with_some(
         alloc,

@@ -59,7 +59,8 @@ pub fn with_name(
     name: Option<&Name>,
 ) -> Result<Items<(Text, Node)>, NoMemory>
     ensures { IfOk result (λ more. more
-        ≡ entries ++ present ((key.now, option_map (λ n. TextNode n) (option_copied name.entry)) ∷ [])) }
+        ≡ entries ++ present ((key.now, option_map (λ n. TextNode n) (option_copied name.entry))
+        ∷ [])) }
 {
     match name {
         Some(name) => with_text(alloc, entries, key, name.as_key()),
@@ -74,7 +75,8 @@ pub fn with_schema(
     key: &str,
     name: &Name,
 ) -> Result<Items<(Text, Node)>, NoMemory>
-    ensures { IfOk result (λ more. more ≡ entries ++ present ((key.now, schema_at name.now) ∷ [])) }
+    ensures { IfOk result (λ more. more
+        ≡ entries ++ present ((key.now, schema_at name.now) ∷ [])) }
 {
     if !name.is_elsewhere() {
         return Ok(entries);

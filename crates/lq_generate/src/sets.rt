@@ -69,7 +69,8 @@ fn key_items(
     table: &Name,
     key: Option<&Key>,
 ) -> Result<Items<Node>, NoMemory>
-    ensures { IfOk result (λ nodes. nodes ≡ key_items dialect table.now (option_copied key.entry)) }
+    ensures { IfOk result (λ nodes. nodes
+        ≡ key_items dialect table.now (option_copied key.entry)) }
 {
     let mut nodes = Items::new(alloc);
     if let Some(key) = key {
@@ -166,7 +167,8 @@ pub fn all_added(
     dialect: Dialect,
     tables: &[&(Name, Held)],
 ) -> Result<Items<Node>, NoMemory>
-    ensures { IfOk result (λ nodes. nodes ≡ flat_map (added_items dialect) (tables_in tables.now)) }
+    ensures { IfOk result (λ nodes. nodes
+        ≡ flat_map (added_items dialect) (tables_in tables.now)) }
 {
     let mut nodes = Items::new(alloc);
     for entry in tables {
@@ -233,7 +235,8 @@ pub fn with_set(
     author: &str,
     changes: Items<Node>,
 ) -> Result<Items<Node>, NoMemory>
-    ensures { IfOk result (λ more. more ≡ sets ++ set_trees author.now ((id.now, changes) ∷ [])) }
+    ensures { IfOk result (λ more. more
+        ≡ sets ++ set_trees author.now ((id.now, changes) ∷ [])) }
 {
     if is_none(changes.as_slice()) {
         return Ok(sets);

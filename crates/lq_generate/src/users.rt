@@ -36,7 +36,8 @@ fn without_tracking<'a>(
     alloc: Global,
     entries: &'a [(Name, Held)],
 ) -> Result<Vec<&'a (Name, Held)>, NoMemory>
-    ensures { IfOk result (λ found. tables_in found.items ≡ untracked (map table_in entries.now)) }
+    ensures { IfOk result (λ found. tables_in found.items
+        ≡ untracked (map table_in entries.now)) }
 {
     let mut found = Vec::new(alloc);
     for entry in entries {

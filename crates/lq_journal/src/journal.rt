@@ -149,7 +149,8 @@ impl<D: Disk> Journal<D> {
         ensures fault { IfErr result (λ refused.
             IsLoadFault dialect limit (D.told disk) (D.faults disk) (D.faults refused.disk)
             refused.fault) }
-        ensures later { MatchResult result (λ loaded. D.faults disk ≤ D.faults (disk_of loaded.0))
+        ensures later { MatchResult result
+            (λ loaded. D.faults disk ≤ D.faults (disk_of loaded.0))
             (λ refused. D.faults disk ≤ D.faults refused.disk) }
         ensures stays { IfOk result (λ loaded. D.faults (disk_of loaded.0) ≡ D.faults disk) }
 
@@ -205,8 +206,11 @@ impl<D: Disk> Journal<D> {
             (D.told (disk_of self.old)) }
 
         // Where all is on the disk, a crash at any moment of the call leaves the entries, and after it all is.
-        ensures any_moment { Settled (D.told (disk_of self.old)) (D.crashes (disk_of self.old)) → IfSome (D.told (disk_of self.old)) (λ before.
-            LeavesOnly (D.crashes (disk_of self.old)) (D.crashes (disk_of self.new)) (StandsForSame (dialect_of self.old) (limit_of self.old) (journal_of (dialect_of self.old) (limit_of self.old) before))) }
+        ensures any_moment { Settled (D.told (disk_of self.old)) (D.crashes (disk_of self.old))
+            → IfSome (D.told (disk_of self.old)) (λ before.
+            LeavesOnly (D.crashes (disk_of self.old)) (D.crashes (disk_of self.new))
+            (StandsForSame (dialect_of self.old) (limit_of self.old)
+            (journal_of (dialect_of self.old) (limit_of self.old) before))) }
         ensures durable { OnOk result
             (Settled (D.told (disk_of self.old)) (D.crashes (disk_of self.old))
             → Settled (D.told (disk_of self.new)) (D.crashes (disk_of self.new))) }
@@ -227,16 +231,26 @@ impl<D: Disk> Journal<D> {
         requires fits { used_of self.old + size_of (B.says entry.now) ≤ limit_of self.old }
         ensures ready { OnOk result (IsReady (D.told (disk_of self.new)) self.new) }
         ensures opening { SameOpening self.old self.new }
-        ensures used { OnOk result (used_of self.new ≡ used_of self.old + size_of (B.says entry.now)) }
+        ensures used { OnOk result (used_of self.new
+            ≡ used_of self.old + size_of (B.says entry.now)) }
         ensures used_stays { OnErr result (used_of self.new ≡ used_of self.old) }
-        ensures added { OnOk result (option_map (journal_of (dialect_of self.old) (limit_of self.old)) (D.told (disk_of self.new))
-            ≡ option_map (with_last (used_of self.old) (B.says entry.now)) (option_map (journal_of (dialect_of self.old) (limit_of self.old)) (D.told (disk_of self.old)))) }
-        ensures failed { OnErr result (IsSameOrMore (used_of self.old) (B.says entry.now) (option_map (journal_of (dialect_of self.old) (limit_of self.old)) (D.told (disk_of self.old)))
-            (option_map (journal_of (dialect_of self.old) (limit_of self.old)) (D.told (disk_of self.new)))) }
+        ensures added { OnOk result (option_map
+            (journal_of (dialect_of self.old) (limit_of self.old)) (D.told (disk_of self.new))
+            ≡ option_map (with_last (used_of self.old) (B.says entry.now))
+            (option_map (journal_of (dialect_of self.old) (limit_of self.old))
+            (D.told (disk_of self.old)))) }
+        ensures failed { OnErr result (IsSameOrMore (used_of self.old) (B.says entry.now)
+            (option_map (journal_of (dialect_of self.old) (limit_of self.old))
+            (D.told (disk_of self.old)))
+            (option_map (journal_of (dialect_of self.old) (limit_of self.old))
+            (D.told (disk_of self.new)))) }
         ensures durable { OnOk result
             (Settled (D.told (disk_of self.new)) (D.crashes (disk_of self.new))) }
-        ensures any_moment { Settled (D.told (disk_of self.old)) (D.crashes (disk_of self.old)) → IfSome (D.told (disk_of self.old)) (λ before.
-            LeavesOnly (D.crashes (disk_of self.old)) (D.crashes (disk_of self.new)) (StandsForSameOrMore (dialect_of self.old) (limit_of self.old) (used_of self.old) (B.says entry.now) (journal_of (dialect_of self.old) (limit_of self.old) before))) }
+        ensures any_moment { Settled (D.told (disk_of self.old)) (D.crashes (disk_of self.old))
+            → IfSome (D.told (disk_of self.old)) (λ before.
+            LeavesOnly (D.crashes (disk_of self.old)) (D.crashes (disk_of self.new))
+            (StandsForSameOrMore (dialect_of self.old) (limit_of self.old) (used_of self.old)
+            (B.says entry.now) (journal_of (dialect_of self.old) (limit_of self.old) before))) }
         ensures faults { CountsFault result (D.faults (disk_of self.old))
             (D.faults (disk_of self.new)) }
     {
@@ -255,31 +269,43 @@ impl<D: Disk> Journal<D> {
         requires ready { IsReady (D.told (disk_of self.old)) self.old }
         ensures ready { OnOk result (IsReady (D.told (disk_of self.new)) self.new) }
         ensures opening { SameOpening self.old self.new }
-        ensures used { OnOk result (used_of self.new ≡ used_of self.old + size_of (B.says entry.now)) }
+        ensures used { OnOk result (used_of self.new
+            ≡ used_of self.old + size_of (B.says entry.now)) }
         ensures used_stays { OnErr result (used_of self.new ≡ used_of self.old) }
-        ensures added { OnOk result (option_map (journal_of (dialect_of self.old) (limit_of self.old)) (D.told (disk_of self.new))
-            ≡ option_map (with_last (used_of self.old) (B.says entry.now)) (option_map (journal_of (dialect_of self.old) (limit_of self.old)) (D.told (disk_of self.old)))) }
+        ensures added { OnOk result (option_map
+            (journal_of (dialect_of self.old) (limit_of self.old)) (D.told (disk_of self.new))
+            ≡ option_map (with_last (used_of self.old) (B.says entry.now))
+            (option_map (journal_of (dialect_of self.old) (limit_of self.old))
+            (D.told (disk_of self.old)))) }
 
         // It is full exactly where the entry goes past the end that the room sets, and then nothing is changed.
-        ensures full { (end_of room (limit_of self.old) < used_of self.old + size_of (B.says entry.now)) ↔
+        ensures full { (end_of room (limit_of self.old) < used_of self.old + size_of
+            (B.says entry.now)) ↔
             (result ≡ Err (Full (used_of self.old) (size_of (B.says entry.now)))) }
         ensures unchanged { IfErr result (λ fault. IsFull fault → self.new ≡ self.old) }
         ensures fault { IfErr result (λ fault.
-            IsAppendFault (used_of self.old) (size_of (B.says entry.now)) (D.faults (disk_of self.old))
+            IsAppendFault (used_of self.old) (size_of (B.says entry.now))
+            (D.faults (disk_of self.old))
             (D.faults (disk_of self.new)) fault) }
         ensures later { D.faults (disk_of self.old) ≤ D.faults (disk_of self.new) }
         ensures stays { OnOk result (D.faults (disk_of self.new) ≡ D.faults (disk_of self.old)) }
 
         // One that fails leaves the entries before it, with the new one or without.
-        ensures failed { OnErr result (IsSameOrMore (used_of self.old) (B.says entry.now) (option_map (journal_of (dialect_of self.old) (limit_of self.old)) (D.told (disk_of self.old)))
-            (option_map (journal_of (dialect_of self.old) (limit_of self.old)) (D.told (disk_of self.new)))) }
+        ensures failed { OnErr result (IsSameOrMore (used_of self.old) (B.says entry.now)
+            (option_map (journal_of (dialect_of self.old) (limit_of self.old))
+            (D.told (disk_of self.old)))
+            (option_map (journal_of (dialect_of self.old) (limit_of self.old))
+            (D.told (disk_of self.new)))) }
 
         // After it a crash leaves what a read gives. Where that was so before, a crash at any moment of the
         // call leaves the entries before it, with the new one or without.
         ensures durable { OnOk result
             (Settled (D.told (disk_of self.new)) (D.crashes (disk_of self.new))) }
-        ensures any_moment { Settled (D.told (disk_of self.old)) (D.crashes (disk_of self.old)) → IfSome (D.told (disk_of self.old)) (λ before.
-            LeavesOnly (D.crashes (disk_of self.old)) (D.crashes (disk_of self.new)) (StandsForSameOrMore (dialect_of self.old) (limit_of self.old) (used_of self.old) (B.says entry.now) (journal_of (dialect_of self.old) (limit_of self.old) before))) }
+        ensures any_moment { Settled (D.told (disk_of self.old)) (D.crashes (disk_of self.old))
+            → IfSome (D.told (disk_of self.old)) (λ before.
+            LeavesOnly (D.crashes (disk_of self.old)) (D.crashes (disk_of self.new))
+            (StandsForSameOrMore (dialect_of self.old) (limit_of self.old) (used_of self.old)
+            (B.says entry.now) (journal_of (dialect_of self.old) (limit_of self.old) before))) }
     {
         let next = entry.size();
         if exceeds(self.used, next, end_of(room, self.limit)) {

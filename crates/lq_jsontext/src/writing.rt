@@ -31,7 +31,8 @@ pub fn write_json(alloc: Global, tree: &Node) -> Result<Text, NoMemory>
 fn text_of(alloc: Global, tree: &Node) -> Result<String, NoMemory>
     ensures text { IfOk result (λ text. string_bytes text ≡ json_text tree.now) }
     ensures order { IfOk result (λ text. IsInOrder (string_bytes text) (data_of tree.now)) }
-    ensures compact { IfOk result (λ text. string_bytes text ≡ print (tokens (string_bytes text))) }
+    ensures compact { IfOk result (λ text. string_bytes text
+        ≡ print (tokens (string_bytes text))) }
     ensures reads { IfOk result (λ text. depth (data_of tree.now) ≤ max_depth
         → read (string_bytes text) ≡ Some (data_of tree.now)) }
 {

@@ -92,7 +92,8 @@ fn drop_everywhere(parts: &mut Parts, alloc: Global, name: &Name) -> Result<(), 
 
 fn anywhere_tests(parts: &Parts, by: By, dialect: Dialect, name: &Name) -> Tests
     ensures { verdict_of result
-        ≡ verdict_of (tests_of (spec.drop_index by dialect name.now None parts.now.now) no_faults) }
+        ≡ verdict_of (tests_of (spec.drop_index by dialect name.now None parts.now.now)
+        no_faults) }
 {
     let _ = dialect;
     Tests {

@@ -136,7 +136,8 @@ pub fn drop_primary_key(
 /// The table's shape without the constraints of the name.
 fn without_constraint(alloc: Global, held: &Held, name: &Name) -> Result<Shape, NoMemory>
     ensures { IfOk result
-        (λ shape. with_shape shape held.now.now ≡ spec.without_constraint name.now held.now.now) }
+        (λ shape. with_shape shape held.now.now
+        ≡ spec.without_constraint name.now held.now.now) }
 {
     let mut shape = held.shape().duplicate(alloc)?;
     shape.key = key_without(alloc, held.key(), name)?;

@@ -390,7 +390,8 @@ fn drop_view<P: SqlText>(
     sql: &P,
 ) -> Result<AnyChange, KindFault>
     ensures read { Reads
-        (within (codes "dropView") (map_found (λ x. any.DropView x) (drop_view.drop_view node.now)))
+        (within (codes "dropView") (map_found (λ x. any.DropView x)
+        (drop_view.drop_view node.now)))
         result }
     ensures right { IfOk result (λ x. is_for dialect x ≡ true) }
 {
@@ -514,7 +515,8 @@ fn delete<P: SqlText>(
 ) -> Result<AnyChange, KindFault>
     requires same { P.dialect ≡ dialect }
     ensures read { Reads
-        (within (codes "delete") (map_found (λ x. any.Delete x) (delete.a_delete dialect node.now)))
+        (within (codes "delete") (map_found (λ x. any.Delete x)
+        (delete.a_delete dialect node.now)))
         result }
     ensures right { IfOk result (λ x. is_for dialect x ≡ true) }
 {

@@ -59,7 +59,8 @@ impl<T: Drop> Links<T> {
     ) -> Result<Spot, Refused<T>>
         requires ties { Ties self.old }
         ensures ties { Ties self.new }
-        ensures state { IfOk result (λ s. state_of self.new ≡ grown (state_of self.old) s (node prev next row)) }
+        ensures state { IfOk result (λ s. state_of self.new
+            ≡ grown (state_of self.old) s (node prev next row)) }
         ensures id { IfOk result (λ s. s.id ≡ length (state_of self.old).slots) }
         ensures err { OnErr result (self.new ≡ self.old) }
         ensures value { IfErr result (λ refused. refused.value ≡ row) }
@@ -93,7 +94,9 @@ impl<T: Drop> Links<T> {
         requires ties { Ties self.old }
         requires there { IsThere (state_of self.old).slots at }
         ensures ties { Ties self.new }
-        ensures state { state_of self.new ≡ record (state_of self.old) { slots = without_node (state_of self.old).slots at.id at.place.ptr } }
+        ensures state { state_of self.new
+            ≡ record (state_of self.old)
+            { slots = without_node (state_of self.old).slots at.id at.place.ptr } }
     {
         drop(self.arena.take(at.place, at.id).into_box(self.alloc));
     }

@@ -159,7 +159,8 @@ fn raise_from<P: SqlText, E: Executor + Drop>(
     requires at { IsAt P.dialect (E.held engine).now (E.held engine) }
     requires texts { has_state entries.now ≡ false }
     ensures { MatchResult result
-        (λ raised. IsRaised P.dialect (folded P.dialect entries.now (Ok (E.held engine).now)) (E.held raised.engine) raised.lock)
+        (λ raised. IsRaised P.dialect (folded P.dialect entries.now (Ok (E.held engine).now))
+        (E.held raised.engine) raised.lock)
         (λ fault. MayNotRaise P.dialect used
         (folded P.dialect entries.now (Ok (E.held engine).now)) fault) }
 {
@@ -198,7 +199,8 @@ fn read_state<E: Executor + Drop, W: States<Engine = E>>(
     bytes: &[u8],
 ) -> Result<E, LoadFault>
     ensures { MatchResult result
-        (λ engine. (state_of dialect bytes.now ≡ Some (E.held engine).now) × IsAt dialect (E.held engine).now (E.held engine))
+        (λ engine. (state_of dialect bytes.now ≡ Some (E.held engine).now)
+        × IsAt dialect (E.held engine).now (E.held engine))
         (λ fault. MayNotRead at (state_of dialect bytes.now) fault) }
 {
     states_are_sound();
@@ -224,7 +226,8 @@ pub fn raise<P: SqlText, E: Executor + Drop, W: States<Engine = E>>(
     ensures { MatchResult result
         (λ raised. IsRaised P.dialect (folded P.dialect entries.now (Ok no_objects))
         (E.held raised.engine) raised.lock)
-        (λ fault. MayNotRaise P.dialect used (folded P.dialect entries.now (Ok no_objects)) fault) }
+        (λ fault. MayNotRaise P.dialect used (folded P.dialect entries.now (Ok no_objects))
+        fault) }
 {
     let Some((at, bytes, behind)) = first_state(entries) else {
         return raise_from(alloc, dialect, sql, E::new(alloc, dialect), entries, used);

@@ -251,7 +251,8 @@ fn whole_part<P: SqlText>(
     ensures identity { IfOk result (λ part. part.identity ≡ identity.now) }
     ensures statements { IfOk result (λ part. part.statements ≡ statements) }
     ensures count { IfOk result (λ part. part.count
-        ≡ standing (is_back mark.now.form) (is_mark_text dialect (by_of lock.now) last.now) number) }
+        ≡ standing (is_back mark.now.form) (is_mark_text dialect (by_of lock.now) last.now)
+        number) }
 {
     let is_last = sets_mark(alloc, dialect, lock, last, sql)?;
     let who = Text::new(alloc, holder(lock))?;

@@ -78,7 +78,9 @@ impl Canon {
 
     /// Takes back what was written since `mark`.
     pub fn go_back(&mut self, mark: Mark)
-        ensures { (before : Writing) → GoesOn before self.old → mark.written ≡ length before.written → mark.begun ≡ length before.begun → self.new ≡ before }
+        ensures { (before : Writing) → GoesOn before self.old
+            → mark.written ≡ length before.written → mark.begun ≡ length before.begun
+            → self.new ≡ before }
     {
         self.written.truncate(mark.written);
         self.begun.truncate(mark.begun);
@@ -128,7 +130,8 @@ impl Canon {
     }
 
     pub fn text(&mut self, t: &str) -> Result<(), NoMemory>
-        ensures written { OnOk result (self.new.written ≡ self.old.written ++ canonical (text t.now)) }
+        ensures written { OnOk result (self.new.written
+            ≡ self.old.written ++ canonical (text t.now)) }
         ensures begun { self.new.begun ≡ self.old.begun }
         ensures unchanged { OnErr result (self.new ≡ self.old) }
     {
@@ -136,7 +139,8 @@ impl Canon {
     }
 
     pub fn number(&mut self, n: i128) -> Result<(), NoMemory>
-        ensures written { OnOk result (self.new.written ≡ self.old.written ++ canonical (number n)) }
+        ensures written { OnOk result (self.new.written
+            ≡ self.old.written ++ canonical (number n)) }
         ensures begun { self.new.begun ≡ self.old.begun }
         ensures unchanged { OnErr result (self.new ≡ self.old) }
     {
@@ -145,7 +149,8 @@ impl Canon {
     }
 
     pub fn truth(&mut self, b: bool) -> Result<(), NoMemory>
-        ensures written { OnOk result (self.new.written ≡ self.old.written ++ canonical (truth b)) }
+        ensures written { OnOk result (self.new.written
+            ≡ self.old.written ++ canonical (truth b)) }
         ensures begun { self.new.begun ≡ self.old.begun }
         ensures unchanged { OnErr result (self.new ≡ self.old) }
     {
@@ -156,7 +161,8 @@ impl Canon {
 
     /// A kind, as the text that is its name in PostgreSQL.
     pub fn kind(&mut self, kind: Kind) -> Result<(), NoMemory>
-        ensures written { OnOk result (self.new.written ≡ self.old.written ++ canonical (kind_value kind)) }
+        ensures written { OnOk result (self.new.written
+            ≡ self.old.written ++ canonical (kind_value kind)) }
         ensures begun { self.new.begun ≡ self.old.begun }
         ensures unchanged { OnErr result (self.new ≡ self.old) }
     {
@@ -168,7 +174,8 @@ impl Canon {
     /// A decimal, `units` divided by ten to the power `scale`, as the text with `scale` digits after
     /// the dot.
     pub fn decimal(&mut self, units: i128, scale: u8) -> Result<(), NoMemory>
-        ensures written { OnOk result (self.new.written ≡ self.old.written ++ canonical (decimal_value units scale)) }
+        ensures written { OnOk result (self.new.written
+            ≡ self.old.written ++ canonical (decimal_value units scale)) }
         ensures begun { self.new.begun ≡ self.old.begun }
         ensures unchanged { OnErr result (self.new ≡ self.old) }
     {
@@ -219,7 +226,8 @@ fn digits_of(alloc: Global, n: i128) -> Result<String, NoMemory>
 
 // What stands before the text in an atom.
 fn head_of(alloc: Global, mark: &str, length: usize) -> Result<String, NoMemory>
-    ensures { IfOk result (λ head. string_bytes head ≡ mark.now ++ (numeral length ++ codes ":")) }
+    ensures { IfOk result (λ head. string_bytes head
+        ≡ mark.now ++ (numeral length ++ codes ":")) }
 {
     Ok(format!(in alloc; "{mark}{length}:")?)
 }

@@ -13,10 +13,12 @@ pub fn text_tells_value()
 
 /// The canonical text of a change determines its type's name and the pairs of its map.
 pub fn text_tells_change()
-    ensures { (c d : CanonicalChange) → canonical_change c ≡ canonical_change d → (c.name ≡ d.name) × (c.pairs ≡ d.pairs) }
+    ensures { (c d : CanonicalChange) → canonical_change c ≡ canonical_change d
+        → (c.name ≡ d.name) × (c.pairs ≡ d.pairs) }
 {}
 
 /// The canonical text of a changeset determines its changes.
 pub fn text_tells_changes()
-    ensures { (cs ds : List CanonicalChange) → canonical_changes cs ≡ canonical_changes ds → cs ≡ ds }
+    ensures { (cs ds : List CanonicalChange) → canonical_changes cs ≡ canonical_changes ds
+        → cs ≡ ds }
 {}

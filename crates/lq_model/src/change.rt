@@ -72,7 +72,8 @@ pub trait Change {
 
     /// Appends its canonical text, or nothing where there is no memory.
     fn canon(&self, to: &mut Canon) -> Result<(), NoMemory>
-        ensures written { OnOk result (to.new.written ≡ to.old.written ++ canonical_change (canonical (key self.now))) }
+        ensures written { OnOk result (to.new.written
+            ≡ to.old.written ++ canonical_change (canonical (key self.now))) }
         ensures begun { OnOk result (to.new.begun ≡ to.old.begun) }
         ensures unchanged { OnErr result (to.new ≡ to.old) };
 

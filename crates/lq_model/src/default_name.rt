@@ -9,7 +9,8 @@ use lq_base::{Dialect, Name, NameFault, NoMemory};
 use std::alloc::{AllocError, Global};
 
 fn as_text(bytes: &[u8]) -> Option<&str>
-    ensures { MatchOption result (is_utf8 bytes.now ≡ false) (λ text. (text.now ≡ bytes.now) × (is_utf8 bytes.now ≡ true)) }
+    ensures { MatchOption result (is_utf8 bytes.now ≡ false)
+        (λ text. (text.now ≡ bytes.now) × (is_utf8 bytes.now ≡ true)) }
 {
     match str::from_utf8(bytes) {
         Ok(text) => Some(text),
@@ -68,7 +69,8 @@ fn default_name(
     columns: &[Name],
 ) -> Result<Name, NoMemory>
     requires { spec.is_prefix prefix.now ≡ true }
-    ensures value { IfOk result (λ name. name ≡ spec.default_name prefix.now table.now columns.now) }
+    ensures value { IfOk result (λ name. name
+        ≡ spec.default_name prefix.now table.now columns.now) }
     ensures name { IfOk result (λ name. IsName name) }
 {
     let text = full_name(alloc, prefix, table, columns)?;

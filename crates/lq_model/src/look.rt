@@ -45,20 +45,25 @@ pub trait Look {
         ensures { option_copied result ≡ index_at (catalogue self.now) table.now name.now };
 
     fn columns(&self, table: &Name) -> Option<&[Column]>
-        ensures { option_map (λ columns. columns.now) result ≡ at_table (λ it. it.columns) (catalogue self.now) table.now };
+        ensures { option_map (λ columns. columns.now) result
+            ≡ at_table (λ it. it.columns) (catalogue self.now) table.now };
 
     fn uniques(&self, table: &Name) -> Option<&[Unique]>
-        ensures { option_map (λ uniques. uniques.now) result ≡ at_table (λ it. it.uniques) (catalogue self.now) table.now };
+        ensures { option_map (λ uniques. uniques.now) result
+            ≡ at_table (λ it. it.uniques) (catalogue self.now) table.now };
 
     fn foreign_keys(&self, table: &Name) -> Option<&[ForeignKey]>
-        ensures { option_map (λ keys. keys.now) result ≡ at_table (λ it. it.foreign) (catalogue self.now) table.now };
+        ensures { option_map (λ keys. keys.now) result
+            ≡ at_table (λ it. it.foreign) (catalogue self.now) table.now };
 
     fn indexes(&self, table: &Name) -> Option<&[Index]>
-        ensures { option_map (λ indexes. indexes.now) result ≡ at_table (λ it. it.indexes) (catalogue self.now) table.now };
+        ensures { option_map (λ indexes. indexes.now) result
+            ≡ at_table (λ it. it.indexes) (catalogue self.now) table.now };
 
     /// Whether a row of the table has a null in that column.
     fn has_null(&self, table: &Name, column: &Name) -> bool
-        ensures { result ≡ unwrap_or (at_table (has_null_in column.now) (catalogue self.now) table.now) false };
+        ensures { result ≡ unwrap_or (at_table (has_null_in column.now) (catalogue self.now)
+            table.now) false };
 
     /// How many rows the table has.
     fn rows(&self, table: &Name) -> Option<u64>

@@ -17,7 +17,8 @@ pub trait Written {
 
     /// Appends the pairs of the keys that were given, or a front of them where there is no memory.
     fn write(&self, to: &mut Canon) -> Result<(), NoMemory>
-        ensures written { OnOk result (to.new.written ≡ to.old.written ++ canonical_pairs (pairs_of (rows self.now))) }
+        ensures written { OnOk result (to.new.written
+            ≡ to.old.written ++ canonical_pairs (pairs_of (rows self.now))) }
         ensures begun { OnOk result (to.new.begun ≡ to.old.begun) }
         ensures front { OnErr result (GoesOn to.old to.new) };
 }
@@ -55,7 +56,8 @@ pub struct MapsAt<'a, T> {
 }
 
 fn write_texts(to: &mut Canon, names: &[Name]) -> Result<(), NoMemory>
-    ensures written { OnOk result (to.new.written ≡ to.old.written ++ canonical_values (texts names.now)) }
+    ensures written { OnOk result (to.new.written
+        ≡ to.old.written ++ canonical_values (texts names.now)) }
     ensures begun { OnOk result (to.new.begun ≡ to.old.begun) }
     ensures front { OnErr result (GoesOn to.old to.new) }
 {
@@ -66,7 +68,8 @@ fn write_texts(to: &mut Canon, names: &[Name]) -> Result<(), NoMemory>
 }
 
 fn write_names(to: &mut Canon, names: &[Name]) -> Result<(), NoMemory>
-    ensures written { OnOk result (to.new.written ≡ to.old.written ++ canonical (list (texts names.now))) }
+    ensures written { OnOk result (to.new.written
+        ≡ to.old.written ++ canonical (list (texts names.now))) }
     ensures begun { OnOk result (to.new.begun ≡ to.old.begun) }
     ensures front { OnErr result (GoesOn to.old to.new) }
 {
@@ -76,7 +79,8 @@ fn write_names(to: &mut Canon, names: &[Name]) -> Result<(), NoMemory>
 }
 
 fn write_field(to: &mut Canon, field: Field) -> Result<(), NoMemory>
-    ensures written { OnOk result (to.new.written ≡ to.old.written ++ canonical (field_value field.entry)) }
+    ensures written { OnOk result (to.new.written
+        ≡ to.old.written ++ canonical (field_value field.entry)) }
     ensures begun { OnOk result (to.new.begun ≡ to.old.begun) }
     ensures front { OnErr result (GoesOn to.old to.new) }
 {
@@ -93,7 +97,9 @@ fn write_field(to: &mut Canon, field: Field) -> Result<(), NoMemory>
 }
 
 fn write_pair(to: &mut Canon, key: &str, field: Option<Field>) -> Result<(), NoMemory>
-    ensures written { OnOk result (to.new.written ≡ to.old.written ++ canonical_pairs (pairs_of ((key.now, option_map field_value field.entry) ∷ []))) }
+    ensures written { OnOk result (to.new.written
+        ≡ to.old.written
+        ++ canonical_pairs (pairs_of ((key.now, option_map field_value field.entry) ∷ []))) }
     ensures begun { OnOk result (to.new.begun ≡ to.old.begun) }
     ensures front { OnErr result (GoesOn to.old to.new) }
 {
@@ -105,7 +111,10 @@ fn write_pair(to: &mut Canon, key: &str, field: Option<Field>) -> Result<(), NoM
 }
 
 fn write_pairs(to: &mut Canon, rows: &[(&str, Option<Field>)]) -> Result<(), NoMemory>
-    ensures written { OnOk result (to.new.written ≡ to.old.written ++ canonical_pairs (pairs_of (map (λ row. (row.0.now, option_map field_value row.1)) rows.now))) }
+    ensures written { OnOk result (to.new.written
+        ≡ to.old.written
+        ++ canonical_pairs (pairs_of (map (λ row. (row.0.now, option_map field_value row.1))
+        rows.now))) }
     ensures begun { OnOk result (to.new.begun ≡ to.old.begun) }
     ensures front { OnErr result (GoesOn to.old to.new) }
 {
@@ -119,7 +128,8 @@ fn write_pairs(to: &mut Canon, rows: &[(&str, Option<Field>)]) -> Result<(), NoM
 }
 
 fn write_map<T: Written>(to: &mut Canon, map: &T) -> Result<(), NoMemory>
-    ensures written { OnOk result (to.new.written ≡ to.old.written ++ canonical (map_with (T.rows map.now))) }
+    ensures written { OnOk result (to.new.written
+        ≡ to.old.written ++ canonical (map_with (T.rows map.now))) }
     ensures begun { OnOk result (to.new.begun ≡ to.old.begun) }
     ensures front { OnErr result (GoesOn to.old to.new) }
 {
@@ -129,7 +139,8 @@ fn write_map<T: Written>(to: &mut Canon, map: &T) -> Result<(), NoMemory>
 }
 
 fn write_maps<T: Written>(to: &mut Canon, items: &[T]) -> Result<(), NoMemory>
-    ensures written { OnOk result (to.new.written ≡ to.old.written ++ canonical_values (maps T.rows items.now)) }
+    ensures written { OnOk result (to.new.written
+        ≡ to.old.written ++ canonical_values (maps T.rows items.now)) }
     ensures begun { OnOk result (to.new.begun ≡ to.old.begun) }
     ensures front { OnErr result (GoesOn to.old to.new) }
 {
@@ -140,7 +151,8 @@ fn write_maps<T: Written>(to: &mut Canon, items: &[T]) -> Result<(), NoMemory>
 }
 
 fn write_list<T: Written>(to: &mut Canon, items: &[T]) -> Result<(), NoMemory>
-    ensures written { OnOk result (to.new.written ≡ to.old.written ++ canonical (list (maps T.rows items.now))) }
+    ensures written { OnOk result (to.new.written
+        ≡ to.old.written ++ canonical (list (maps T.rows items.now))) }
     ensures begun { OnOk result (to.new.begun ≡ to.old.begun) }
     ensures front { OnErr result (GoesOn to.old to.new) }
 {
@@ -240,7 +252,8 @@ impl<A: Written, B: Written, C: Written> Written for (A, B, C) {
 }
 
 fn write_named<T: Written>(to: &mut Canon, name: &str, keys: &T) -> Result<(), NoMemory>
-    ensures written { OnOk result (to.new.written ≡ to.old.written ++ canonical_change (change_of name.now (T.rows keys.now))) }
+    ensures written { OnOk result (to.new.written
+        ≡ to.old.written ++ canonical_change (change_of name.now (T.rows keys.now))) }
     ensures begun { OnOk result (to.new.begun ≡ to.old.begun) }
     ensures front { OnErr result (GoesOn to.old to.new) }
 {
@@ -250,7 +263,8 @@ fn write_named<T: Written>(to: &mut Canon, name: &str, keys: &T) -> Result<(), N
 
 /// Appends the change of the type of that name with these keys, or nothing where there is no memory.
 pub fn write_change_of<T: Written>(to: &mut Canon, name: &str, keys: &T) -> Result<(), NoMemory>
-    ensures written { OnOk result (to.new.written ≡ to.old.written ++ canonical_change (change_of name.now (T.rows keys.now))) }
+    ensures written { OnOk result (to.new.written
+        ≡ to.old.written ++ canonical_change (change_of name.now (T.rows keys.now))) }
     ensures begun { OnOk result (to.new.begun ≡ to.old.begun) }
     ensures unchanged { OnErr result (to.new ≡ to.old) }
 {
@@ -268,7 +282,10 @@ pub fn write_change(
     name: &str,
     rows: &[(&str, Option<Field>)],
 ) -> Result<(), NoMemory>
-    ensures written { OnOk result (to.new.written ≡ to.old.written ++ canonical_change (change_of name.now (map (λ row. (row.0.now, option_map field_value row.1)) rows.now))) }
+    ensures written { OnOk result (to.new.written
+        ≡ to.old.written
+        ++ canonical_change (change_of name.now
+        (map (λ row. (row.0.now, option_map field_value row.1)) rows.now))) }
     ensures begun { OnOk result (to.new.begun ≡ to.old.begun) }
     ensures unchanged { OnErr result (to.new ≡ to.old) }
 {

@@ -41,7 +41,8 @@ impl<N, A: Allocator> Model for Arena<N, A> {
 
 impl<N: Drop, A: Allocator> Held<N, A> {
     pub fn of(value: Box<N, A>) -> (Held<N, A>, A)
-        ensures { (result.0.value ≡ value.value) × (result.0.alloc ≡ box_allocator value) × (result.1 ≡ box_allocator value) }
+        ensures { (result.0.value ≡ value.value) × (result.0.alloc ≡ box_allocator value)
+            × (result.1 ≡ box_allocator value) }
     {
         let (ptr, alloc) = Box::into_raw_with_allocator(value);
         (

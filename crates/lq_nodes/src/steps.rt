@@ -10,7 +10,8 @@ use std::alloc::Allocator;
 impl<N, A: Allocator> Arena<N, A> {
     pub fn put(&mut self, node: Held<N, A>) -> Place
         requires { node.alloc ≡ self.old.alloc }
-        ensures { (self.new.slots ≡ self.old.slots ++ (result.ptr, Some node.value) ∷ []) × (self.new.alloc ≡ self.old.alloc) }
+        ensures { (self.new.slots ≡ self.old.slots ++ (result.ptr, Some node.value) ∷ [])
+            × (self.new.alloc ≡ self.old.alloc) }
     {
         let Held { ptr } = node;
         Place {
@@ -27,7 +28,8 @@ impl<N, A: Allocator> Arena<N, A> {
 
     pub fn at_mut(&mut self, at: Place, id: usize) -> &mut N
         requires { (x : N) × IsAt self.old.slots id at.ptr x }
-        ensures* writes_back { sem 𝓛 (lends_node N.row A.row A.Allocator self.entry id at.ptr result) }
+        ensures* writes_back { sem 𝓛 (lends_node N.row A.row A.Allocator self.entry id at.ptr
+            result) }
         ensures value { (x : N) → IsAt self.old.slots id at.ptr x → result.now ≡ x }
     {
         unsafe { &mut *(at.ptr as *mut N) }
@@ -35,7 +37,10 @@ impl<N, A: Allocator> Arena<N, A> {
 
     pub fn take(&mut self, at: Place, id: usize) -> Held<N, A>
         requires { (x : N) × IsAt self.old.slots id at.ptr x }
-        ensures { ((x : N) → IsAt self.old.slots id at.ptr x → result.value ≡ x) × (result.alloc ≡ self.old.alloc) × (self.new.slots ≡ without_node self.old.slots id at.ptr) × (self.new.alloc ≡ self.old.alloc) }
+        ensures { ((x : N) → IsAt self.old.slots id at.ptr x → result.value ≡ x)
+            × (result.alloc ≡ self.old.alloc)
+            × (self.new.slots ≡ without_node self.old.slots id at.ptr)
+            × (self.new.alloc ≡ self.old.alloc) }
     {
         Held {
             ptr: at.ptr as *mut Box<N, A>,
@@ -44,8 +49,11 @@ impl<N, A: Allocator> Arena<N, A> {
 
     /// Takes out the node of the last slot, and the slot with it.
     pub fn pop(&mut self, at: Place, id: usize) -> Held<N, A>
-        requires { ((x : N) × IsAt self.old.slots id at.ptr x) × (id + 1 ≡ length self.old.slots) }
-        ensures { ((x : N) → IsAt self.old.slots id at.ptr x → result.value ≡ x) × (result.alloc ≡ self.old.alloc) × (self.new.slots ≡ take id self.old.slots) × (self.new.alloc ≡ self.old.alloc) }
+        requires { ((x : N) × IsAt self.old.slots id at.ptr x)
+            × (id + 1 ≡ length self.old.slots) }
+        ensures { ((x : N) → IsAt self.old.slots id at.ptr x → result.value ≡ x)
+            × (result.alloc ≡ self.old.alloc) × (self.new.slots ≡ take id self.old.slots)
+            × (self.new.alloc ≡ self.old.alloc) }
     {
         Held {
             ptr: at.ptr as *mut Box<N, A>,

@@ -78,7 +78,8 @@ impl AddNotNullConstraint {
     // Fills the nulls with the value.
     fn fill(&self, alloc: Global, value: &Text) -> Result<Statement, NoMemory>
         ensures { IfOk result
-            (λ made. fills self.now.table_name self.now.column_name (Some value.now) ≡ made ∷ []) }
+            (λ made. fills self.now.table_name self.now.column_name (Some value.now)
+            ≡ made ∷ []) }
     {
         let names = both(
             self.table_name.duplicate(alloc),
@@ -94,7 +95,8 @@ impl AddNotNullConstraint {
 
     // The column with the value.
     fn filled(&self, alloc: Global, value: &Text) -> Result<Items<(Name, Literal)>, NoMemory>
-        ensures { IfOk result (λ sets. sets ≡ (self.now.column_name, literal.Text value.now) ∷ []) }
+        ensures { IfOk result (λ sets. sets
+            ≡ (self.now.column_name, literal.Text value.now) ∷ []) }
     {
         let (column, value) = both(self.column_name.duplicate(alloc), value.copy(alloc))?;
         let mut sets = Items::new(alloc);

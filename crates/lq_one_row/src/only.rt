@@ -131,7 +131,8 @@ fn one_of(
 ) -> Result<Option<usize>, NoMemory>
     ensures { IfOk result (λ place.
         IfSome place (λ at.
-        filter (is_taken_at test.now (the_table parts.now.now table.now)) places.now ≡ at ∷ [])) }
+        filter (is_taken_at test.now (the_table parts.now.now table.now)) places.now
+        ≡ at ∷ [])) }
 {
     let Some(held) = parts.table(table) else {
         return Ok(None);

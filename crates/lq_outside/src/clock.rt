@@ -13,6 +13,7 @@ pub trait Clock {
     /// Milliseconds since 1970-01-01 UTC.
     fn now(&mut self) -> u64
         ensures last { last self.new ≡ result }
-        ensures first { IfSome (to_come self.old) (λ answers. slice_get answers 0 ≡ Some result) }
+        ensures first { IfSome (to_come self.old)
+            (λ answers. slice_get answers 0 ≡ Some result) }
         ensures rest { to_come self.new ≡ option_map after_first (to_come self.old) };
 }

@@ -25,7 +25,8 @@ pub trait Disk {
 
     /// The number of bytes.
     fn size(&mut self) -> Result<u64, DiskFailed>
-        ensures size { IfSome (told self.old) (λ bytes. IfOk result (λ size. size ≡ length bytes)) }
+        ensures size { IfSome (told self.old)
+            (λ bytes. IfOk result (λ size. size ≡ length bytes)) }
         ensures told { told self.new ≡ told self.old }
         ensures crash { Goes Same (crashes self.old) (crashes self.new) }
         ensures syncs { SameSyncs (crashes self.old) (crashes self.new) }

@@ -38,13 +38,16 @@ impl Files for MemFiles {
         ensures found { IfSome (⟦<MemFiles as Files>⟧.told self.old)
             (λ files. IfOk result (IsFound (files path.now))) }
         ensures limit { IfOk result IsWithinLimit }
-        ensures told { ⟦<MemFiles as Files>⟧.told self.new ≡ ⟦<MemFiles as Files>⟧.told self.old }
+        ensures told { ⟦<MemFiles as Files>⟧.told self.new
+            ≡ ⟦<MemFiles as Files>⟧.told self.old }
         ensures later { ⟦<MemFiles as Files>⟧.faults self.old
             ≤ ⟦<MemFiles as Files>⟧.faults self.new }
         ensures failed { IsErrOf result Failed
-            → Rose (⟦<MemFiles as Files>⟧.faults self.old) (⟦<MemFiles as Files>⟧.faults self.new) }
+            → Rose (⟦<MemFiles as Files>⟧.faults self.old)
+            (⟦<MemFiles as Files>⟧.faults self.new) }
         ensures stays { OnOk result
-            (⟦<MemFiles as Files>⟧.faults self.new ≡ ⟦<MemFiles as Files>⟧.faults self.old) }
+            (⟦<MemFiles as Files>⟧.faults self.new
+            ≡ ⟦<MemFiles as Files>⟧.faults self.old) }
         ensures planned { IsErrOf result Failed ↔ IsTrue (fails (plan_of_files self.old)) }
         ensures plan { GoesOn (plan_of_files self.old) (plan_of_files self.new) }
     {
@@ -55,13 +58,16 @@ impl Files for MemFiles {
     fn list(&mut self, folder: &str) -> Result<Items<Text>, FilesFault>
         ensures listing { IfSome (⟦<MemFiles as Files>⟧.told self.old)
             (λ files. IfOk result (IsListing files folder.now)) }
-        ensures told { ⟦<MemFiles as Files>⟧.told self.new ≡ ⟦<MemFiles as Files>⟧.told self.old }
+        ensures told { ⟦<MemFiles as Files>⟧.told self.new
+            ≡ ⟦<MemFiles as Files>⟧.told self.old }
         ensures later { ⟦<MemFiles as Files>⟧.faults self.old
             ≤ ⟦<MemFiles as Files>⟧.faults self.new }
         ensures failed { IsErrOf result Failed
-            → Rose (⟦<MemFiles as Files>⟧.faults self.old) (⟦<MemFiles as Files>⟧.faults self.new) }
+            → Rose (⟦<MemFiles as Files>⟧.faults self.old)
+            (⟦<MemFiles as Files>⟧.faults self.new) }
         ensures stays { OnOk result
-            (⟦<MemFiles as Files>⟧.faults self.new ≡ ⟦<MemFiles as Files>⟧.faults self.old) }
+            (⟦<MemFiles as Files>⟧.faults self.new
+            ≡ ⟦<MemFiles as Files>⟧.faults self.old) }
         ensures planned { IsErrOf result Failed ↔ IsTrue (fails (plan_of_files self.old)) }
         ensures plan { GoesOn (plan_of_files self.old) (plan_of_files self.new) }
     {

@@ -23,7 +23,8 @@ pub trait Sink {
         ensures some { IfOk result (λ taken. 0 < length piece.now → 0 < taken) }
         ensures fits { IfOk result (λ taken. taken ≤ length piece.now) }
         ensures told { IfOk result (λ taken.
-            told self.new ≡ option_map (λ before. before ++ take taken piece.now) (told self.old)) }
+            told self.new
+            ≡ option_map (λ before. before ++ take taken piece.now) (told self.old)) }
         ensures failed { OnErr result (told self.new ≡ told self.old) }
         ensures faults { CountsFault result (faults self.old) (faults self.new) };
 }

@@ -32,14 +32,16 @@ impl Files for SureFiles {
         ensures found { IfSome (⟦<SureFiles as Files>⟧.told self.old)
             (λ files. IfOk result (IsFound (files path.now))) }
         ensures limit { IfOk result IsWithinLimit }
-        ensures told { ⟦<SureFiles as Files>⟧.told self.new ≡ ⟦<SureFiles as Files>⟧.told self.old }
+        ensures told { ⟦<SureFiles as Files>⟧.told self.new
+            ≡ ⟦<SureFiles as Files>⟧.told self.old }
         ensures later { ⟦<SureFiles as Files>⟧.faults self.old
             ≤ ⟦<SureFiles as Files>⟧.faults self.new }
         ensures failed { IsErrOf result Failed
             → Rose (⟦<SureFiles as Files>⟧.faults self.old)
             (⟦<SureFiles as Files>⟧.faults self.new) }
         ensures stays { OnOk result
-            (⟦<SureFiles as Files>⟧.faults self.new ≡ ⟦<SureFiles as Files>⟧.faults self.old) }
+            (⟦<SureFiles as Files>⟧.faults self.new
+            ≡ ⟦<SureFiles as Files>⟧.faults self.old) }
         ensures sure { IsErrOf result Failed → ⊥ }
     {
         match find(self.alloc, self.files.as_slice(), path) {
@@ -51,14 +53,16 @@ impl Files for SureFiles {
     fn list(&mut self, folder: &str) -> Result<Items<Text>, FilesFault>
         ensures listing { IfSome (⟦<SureFiles as Files>⟧.told self.old)
             (λ files. IfOk result (IsListing files folder.now)) }
-        ensures told { ⟦<SureFiles as Files>⟧.told self.new ≡ ⟦<SureFiles as Files>⟧.told self.old }
+        ensures told { ⟦<SureFiles as Files>⟧.told self.new
+            ≡ ⟦<SureFiles as Files>⟧.told self.old }
         ensures later { ⟦<SureFiles as Files>⟧.faults self.old
             ≤ ⟦<SureFiles as Files>⟧.faults self.new }
         ensures failed { IsErrOf result Failed
             → Rose (⟦<SureFiles as Files>⟧.faults self.old)
             (⟦<SureFiles as Files>⟧.faults self.new) }
         ensures stays { OnOk result
-            (⟦<SureFiles as Files>⟧.faults self.new ≡ ⟦<SureFiles as Files>⟧.faults self.old) }
+            (⟦<SureFiles as Files>⟧.faults self.new
+            ≡ ⟦<SureFiles as Files>⟧.faults self.old) }
         ensures sure { IsErrOf result Failed → ⊥ }
     {
         match paths_under(self.alloc, self.files.as_slice(), folder) {

@@ -200,7 +200,8 @@ impl Parts {
     /// Whether the name stands in one of PostgreSQL's shared spaces: in O(log n) once the names
     /// inside the tables are known, which they get by the first call.
     pub fn has_shared_name(&mut self, name: &Name) -> Result<bool, NoMemory>
-        ensures found { IfOk result (λ found. found ≡ is_in name.now (shared_names self.old.now)) }
+        ensures found { IfOk result (λ found. found
+            ≡ is_in name.now (shared_names self.old.now)) }
         ensures same { self.new ≡ self.old }
     {
         let has_object = self.has_object(name);
@@ -238,7 +239,8 @@ impl Parts {
 
     /// Whether a foreign key has the name, where that is known without a look at all tables.
     pub fn knows_foreign_name(&self, name: &Name) -> Option<bool>
-        ensures { IfSome result (λ found. found ≡ is_in name.now (all_foreign_names self.now.now)) }
+        ensures { IfSome result (λ found. found
+            ≡ is_in name.now (all_foreign_names self.now.now)) }
     {
         self.names.knows_foreign(name)
     }
@@ -419,7 +421,8 @@ impl Parts {
     /// Puts a new view at its name, or changes nothing.
     pub fn put_view(&mut self, name: Name, view: View) -> Result<(), NoMemory>
         requires { view_of self.old.now name ≡ None }
-        ensures ok { OnOk result (self.new ≡ changed self.old (with_view self.old.now name view)) }
+        ensures ok { OnOk result (self.new
+            ≡ changed self.old (with_view self.old.now name view)) }
         ensures err { OnErr result (self.new ≡ self.old) }
     {
         self.done.reserve(1)?;

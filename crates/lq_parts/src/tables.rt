@@ -360,7 +360,8 @@ fn rename_in(entries: &mut Vec<(Name, Held)>, name: &Name, to: Name) -> Step
     ensures back { before result entries.new.items ≡ entries.old.items }
     ensures place { HasPlace result entries.new.items }
     ensures tables { tables_of entries.new.items
-        ≡ insert_entry name_cmp (remove_entry (is_named name.now) (tables_of entries.old.items)) to
+        ≡ insert_entry name_cmp (remove_entry (is_named name.now) (tables_of entries.old.items))
+        to
         (unwrap_or (lookup (is_named name.now) (tables_of entries.old.items)) no_table) }
     ensures ordered { IsOrdered entries.new.items }
     ensures capacity { vec_capacity entries.old ≡ vec_capacity entries.new }

@@ -82,7 +82,8 @@ impl TakenNames {
     pub fn knows_foreign(&self, name: &Name) -> Option<bool>
         ensures { (tables : TableMap)
             → AreKnown tables self.now
-            → IfSome result (λ found. found ≡ is_in name.now (names_in foreign_inside tables)) }
+            → IfSome result (λ found. found
+            ≡ is_in name.now (names_in foreign_inside tables)) }
     {
         known_in(&self.foreign, name)
     }
@@ -444,7 +445,8 @@ fn add_uniques(
     table: &Name,
     uniques: &[Unique],
 ) -> Result<(), NoMemory>
-    ensures { OnOk result (Gains (map (λ u. beside table.now u.name) uniques.now) set.old set.new) }
+    ensures { OnOk result (Gains (map (λ u. beside table.now u.name) uniques.now) set.old
+        set.new) }
 {
     for unique in uniques {
         add_placed(alloc, set, table, &unique.name)?;
@@ -459,7 +461,8 @@ fn add_indexes(
     table: &Name,
     indexes: &[Index],
 ) -> Result<(), NoMemory>
-    ensures { OnOk result (Gains (map (λ i. beside table.now i.name) indexes.now) set.old set.new) }
+    ensures { OnOk result (Gains (map (λ i. beside table.now i.name) indexes.now) set.old
+        set.new) }
 {
     for index in indexes {
         add_placed(alloc, set, table, &index.name)?;

@@ -68,7 +68,8 @@ fn leave(way: &mut Items<&str>) -> bool
 /// Goes on along one more part, if it does not lead out.
 fn enter<'a>(way: &mut Items<&'a str>, part: &'a str) -> Result<bool, NoMemory>
     ensures { IfOk result
-        (λ so. Enters so (entered (map (λ p. p.now) way.old) part.now) (map (λ p. p.now) way.new)) }
+        (λ so. Enters so (entered (map (λ p. p.now) way.old) part.now)
+        (map (λ p. p.now) way.new)) }
 {
     if is_passed(part) {
         return Ok(true);

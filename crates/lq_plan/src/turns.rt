@@ -81,7 +81,8 @@ fn add_pending(
 
 /// Whether it has a turn, and what that is by its row.
 fn what<'a>(index: &RowIndex<'a>, head: &'a Head<'a>) -> Option<What>
-    ensures { (rows : List Row) → HasRows rows index.now → result ≡ what (headed head.now) rows }
+    ensures { (rows : List Row) → HasRows rows index.now
+        → result ≡ what (headed head.now) rows }
 {
     if !head.selected {
         return None;

@@ -113,7 +113,8 @@ impl AnyCommand {
             result }
         ensures idle { LeavesAll (command_stands self.old) (S.state store.old) store.old store.new }
         ensures later { S.faults store.old ≤ S.faults store.new }
-        ensures rose { result ≡ Err drill.Disk → Rose (S.faults store.old) (S.faults store.new) }
+        ensures rose { result ≡ Err drill.Disk
+            → Rose (S.faults store.old) (S.faults store.new) }
     {
         match self {
             AnyCommand::AtOnce(player) => player.step(session, store, sql),
@@ -165,7 +166,8 @@ fn at_once(
     requires moment { stamp.reading ≤ 253402300799999 }
     requires plain { IsPlain stamp }
     requires tag { HasShortTag (command_of command) }
-    ensures { (prints : Bool) → Starts prints dialect (task_for (command_of command) options changelog stamp) result }
+    ensures { (prints : Bool)
+        → Starts prints dialect (task_for (command_of command) options changelog stamp) result }
 {
     let report = Report::new(alloc);
     let once = AtOnce {
@@ -209,7 +211,8 @@ fn rollback(
     requires plain { IsPlain stamp }
     requires options { options.dialect ≡ dialect }
     requires read { AreFor options.dialect changelog }
-    ensures { Starts prints dialect (task_for (command.Rollback target) options changelog stamp) result }
+    ensures { Starts prints dialect (task_for (command.Rollback target) options changelog stamp)
+        result }
 {
     let rolling = RollingBack::new(alloc, changelog, options, target, prints);
     AnyCommand::Rollback(Playing::new(alloc, dialect, stamp, rolling))
@@ -225,7 +228,8 @@ fn sync(
     requires moment { stamp.reading ≤ 253402300799999 }
     requires plain { IsPlain stamp }
     requires texts { All HasTexts (view_log options changelog).sets }
-    ensures { (prints : Bool) → Starts prints dialect (task_for command.Sync options changelog stamp) result }
+    ensures { (prints : Bool)
+        → Starts prints dialect (task_for command.Sync options changelog stamp) result }
 {
     let syncing = Syncing::new(alloc, changelog, options);
     AnyCommand::Sync(Playing::new(alloc, dialect, stamp, syncing))

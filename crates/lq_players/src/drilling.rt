@@ -38,20 +38,47 @@ pub fn drill_commands<S: Store, P: SqlText>(
     ensures count { length players.new.items ≡ length players.old.items }
     ensures met { Each command_stands (HasMet as_failed) players.new.items }
     ensures ends { EndsAs command_stands as_failed players.new.items result }
-    ensures clean { (tasks : ℕ → Task AnyChange) (database : Database) → StandsFor (S.state store.old).dialect (S.state store.old).committed database → HaveTasks (S.state store.old).dialect tasks players.old.items
-        → Each command_stands IsFaultless players.new.items → IsDrilled command_stands (works (S.state store.old).dialect tasks) (S.state store.old) database steps.now players.new.items (S.state store.new) }
-    ensures until { (tasks : ℕ → Task AnyChange) (database : Database) → StandsFor (S.state store.old).dialect (S.state store.old).committed database → HaveTasks (S.state store.old).dialect tasks players.old.items
-        → IsDrilledUntil command_stands (works (S.state store.old).dialect tasks) (S.state store.old) database as_failed steps.now players.new.items (S.state store.new) }
-    ensures serial { (tasks : ℕ → Task AnyChange) (database : Database) → StandsFor (S.state store.old).dialect (S.state store.old).committed database → HaveTasks (S.state store.old).dialect tasks players.old.items
-        → Each command_stands IsFaultless players.new.items → NoneReleases tasks steps.now → IsSerialDrill command_stands (works (S.state store.old).dialect tasks) (S.state store.old) database steps.now players.new.items (S.state store.new) }
-    ensures in_turn { (tasks : ℕ → Task AnyChange) (database : Database) → StandsFor (S.state store.old).dialect (S.state store.old).committed database → HaveTasks (S.state store.old).dialect tasks players.old.items
-        → Each command_stands IsFaultless players.new.items → BeginInTurn (S.state store.old).dialect tasks database steps.now → IsSerialDrill command_stands (works (S.state store.old).dialect tasks) (S.state store.old) database steps.now players.new.items (S.state store.new) }
-    ensures crash { (tasks : ℕ → Task AnyChange) (database : Database) → StandsFor (S.state store.old).dialect (S.state store.old).committed database → HaveTasks (S.state store.old).dialect tasks players.old.items
-        → CrashesLeave (S.state store.old).entries (LeftInDrill command_stands (works (S.state store.old).dialect tasks) (S.state store.old) database as_failed steps.now players.new.items) (S.crashes store.old) (S.crashes store.new) }
-    ensures left { (tasks : ℕ → Task AnyChange) (database : Database) → StandsFor (S.state store.old).dialect (S.state store.old).committed database → HaveTasks (S.state store.old).dialect tasks players.old.items
-        → LeftAtEnd command_stands (works (S.state store.old).dialect tasks) (S.state store.old) database as_failed steps.now players.new.items (S.state store.new) }
-    ensures cause { (tasks : ℕ → Task AnyChange) (database : Database) → StandsFor (S.state store.old).dialect (S.state store.old).committed database → HaveTasks (S.state store.old).dialect tasks players.old.items
-        → IfErr result (FailsBy command_stands (works (S.state store.old).dialect tasks) (S.state store.old) database as_failed steps.now players.new.items (S.state store.new)) }
+    ensures clean { (tasks : ℕ → Task AnyChange) (database : Database)
+        → StandsFor (S.state store.old).dialect (S.state store.old).committed database
+        → HaveTasks (S.state store.old).dialect tasks players.old.items
+        → Each command_stands IsFaultless players.new.items
+        → IsDrilled command_stands (works (S.state store.old).dialect tasks) (S.state store.old)
+        database steps.now players.new.items (S.state store.new) }
+    ensures until { (tasks : ℕ → Task AnyChange) (database : Database)
+        → StandsFor (S.state store.old).dialect (S.state store.old).committed database
+        → HaveTasks (S.state store.old).dialect tasks players.old.items
+        → IsDrilledUntil command_stands (works (S.state store.old).dialect tasks)
+        (S.state store.old) database as_failed steps.now players.new.items (S.state store.new) }
+    ensures serial { (tasks : ℕ → Task AnyChange) (database : Database)
+        → StandsFor (S.state store.old).dialect (S.state store.old).committed database
+        → HaveTasks (S.state store.old).dialect tasks players.old.items
+        → Each command_stands IsFaultless players.new.items → NoneReleases tasks steps.now
+        → IsSerialDrill command_stands (works (S.state store.old).dialect tasks)
+        (S.state store.old) database steps.now players.new.items (S.state store.new) }
+    ensures in_turn { (tasks : ℕ → Task AnyChange) (database : Database)
+        → StandsFor (S.state store.old).dialect (S.state store.old).committed database
+        → HaveTasks (S.state store.old).dialect tasks players.old.items
+        → Each command_stands IsFaultless players.new.items
+        → BeginInTurn (S.state store.old).dialect tasks database steps.now
+        → IsSerialDrill command_stands (works (S.state store.old).dialect tasks)
+        (S.state store.old) database steps.now players.new.items (S.state store.new) }
+    ensures crash { (tasks : ℕ → Task AnyChange) (database : Database)
+        → StandsFor (S.state store.old).dialect (S.state store.old).committed database
+        → HaveTasks (S.state store.old).dialect tasks players.old.items
+        → CrashesLeave (S.state store.old).entries
+        (LeftInDrill command_stands (works (S.state store.old).dialect tasks) (S.state store.old)
+        database as_failed steps.now players.new.items) (S.crashes store.old)
+        (S.crashes store.new) }
+    ensures left { (tasks : ℕ → Task AnyChange) (database : Database)
+        → StandsFor (S.state store.old).dialect (S.state store.old).committed database
+        → HaveTasks (S.state store.old).dialect tasks players.old.items
+        → LeftAtEnd command_stands (works (S.state store.old).dialect tasks) (S.state store.old)
+        database as_failed steps.now players.new.items (S.state store.new) }
+    ensures cause { (tasks : ℕ → Task AnyChange) (database : Database)
+        → StandsFor (S.state store.old).dialect (S.state store.old).committed database
+        → HaveTasks (S.state store.old).dialect tasks players.old.items
+        → IfErr result (FailsBy command_stands (works (S.state store.old).dialect tasks)
+        (S.state store.old) database as_failed steps.now players.new.items (S.state store.new)) }
     ensures later { S.faults store.old ≤ S.faults store.new }
     ensures rose { result ≡ Err fault.Disk → Rose (S.faults store.old) (S.faults store.new) }
 {

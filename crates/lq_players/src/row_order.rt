@@ -29,7 +29,8 @@ pub fn are_apart<'a>(alloc: Global, rows: &'a [Tracked]) -> Result<bool, NoMemor
 
 // It stands behind the last place, and is the first row of its identity.
 fn follows<'a>(index: &RowIndex<'a>, last: u32, row: &'a Tracked) -> bool
-    ensures { (rows : List Row) → HasRows rows index.now → result ≡ follows last row.now rows }
+    ensures { (rows : List Row) → HasRows rows index.now
+        → result ≡ follows last row.now rows }
 {
     last < row.order && is_first(index, row)
 }

@@ -56,10 +56,13 @@ pub fn after_fault(
     ensures locked { is_some fault ≡ true → IfOk result (λ a. tells_locked a ≡ true) }
     ensures kept { IfOk result (λ a. answer ≡ Ok a) }
     ensures fails { IfErr result
-        (λ why. (answer ≡ Err why) ⊎ ((met : Fault) × (fault ≡ Some met) × (fault_of met ≡ why))) }
+        (λ why. (answer ≡ Err why) ⊎
+        ((met : Fault) × (fault ≡ Some met) × (fault_of met ≡ why))) }
     ensures unlocked { IfErr result
-        (λ why. (answer ≡ Err why) ⊎ ((a : Told) × (answer ≡ Ok a) × (tells_locked a ≡ false))) }
-    ensures disk { disk_failed fault ≡ false → result ≡ Err drill.Disk → answer ≡ Err drill.Disk }
+        (λ why. (answer ≡ Err why) ⊎
+        ((a : Told) × (answer ≡ Ok a) × (tells_locked a ≡ false))) }
+    ensures disk { disk_failed fault ≡ false → result ≡ Err drill.Disk
+        → answer ≡ Err drill.Disk }
 {
     match fault {
         None => answer,
@@ -100,7 +103,8 @@ pub fn last_fault<S: Store>(
     requires valid { S.valid store.now }
     requires live { IsTrue (S.state store.now).live }
     requires moment { stamp.now.reading ≤ 253402300799999 }
-    ensures { (d : Names) → Stays d stamp.now fault (asks_open hand.now) (S.state store.now) result }
+    ensures { (d : Names) → Stays d stamp.now fault (asks_open hand.now) (S.state store.now)
+        result }
 {
     match fault {
         None => None,

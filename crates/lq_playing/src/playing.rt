@@ -45,8 +45,10 @@ impl<T: Checks + Drop> Playing<T> {
         requires plain { IsPlain stamp }
         ensures new { (n : ℕ)
             → IsNew n (stands T.meaning T.left T.way T.reads T.job T.ends T.reports result) }
-        ensures ready { (stands T.meaning T.left T.way T.reads T.job T.ends T.reports result).ready }
-        ensures dialect { (stands T.meaning T.left T.way T.reads T.job T.ends T.reports result).dialect
+        ensures ready { (stands T.meaning T.left T.way T.reads T.job T.ends T.reports
+            result).ready }
+        ensures dialect { (stands T.meaning T.left T.way T.reads T.job T.ends T.reports
+            result).dialect
             ≡ dialect }
         ensures stamp { result.runner.stamp ≡ stamp }
         ensures job { (stands T.meaning T.left T.way T.reads T.job T.ends T.reports result).job
@@ -78,18 +80,23 @@ impl<T: Checks + Drop> Playing<T> {
         requires valid { S.valid store.old }
         requires live { IsTrue (S.state store.old).live }
         requires sql { P.dialect ≡ self.old.runner.dialect }
-        requires ready { (stands T.meaning T.left T.way T.reads T.job T.ends T.reports self.old).ready }
+        requires ready { (stands T.meaning T.left T.way T.reads T.job T.ends T.reports
+            self.old).ready }
         requires opens { is_open session (S.state store.old).begun
             ≡ opens_as self.old.begun self.old.runner.hand }
         requires going { self.old.answer ≡ None }
         ensures valid { S.valid store.new }
-        ensures took { Took session (stands T.meaning T.left T.way T.reads T.job T.ends T.reports self.old)
-            (stands T.meaning T.left T.way T.reads T.job T.ends T.reports self.new) (S.state store.old)
+        ensures took { Took session (stands T.meaning T.left T.way T.reads T.job T.ends T.reports
+            self.old)
+            (stands T.meaning T.left T.way T.reads T.job T.ends T.reports self.new)
+            (S.state store.old)
             (S.state store.new) (S.crashes store.old) (S.crashes store.new) result }
-        ensures idle { LeavesAll (stands T.meaning T.left T.way T.reads T.job T.ends T.reports self.old)
+        ensures idle { LeavesAll (stands T.meaning T.left T.way T.reads T.job T.ends T.reports
+            self.old)
             (S.state store.old) store.old store.new }
         ensures later { S.faults store.old ≤ S.faults store.new }
-        ensures rose { result ≡ Err drill.Disk → Rose (S.faults store.old) (S.faults store.new) }
+        ensures rose { result ≡ Err drill.Disk
+            → Rose (S.faults store.old) (S.faults store.new) }
     {
         if self.begun {
             self.go_on(session, store, sql)
@@ -113,13 +120,17 @@ impl<T: Checks + Drop> Playing<T> {
         requires closed { is_open session (S.state store.old).begun ≡ false }
         requires going { self.old.answer ≡ None }
         ensures valid { S.valid store.new }
-        ensures took { Took session (stands T.meaning T.left T.way T.reads T.job T.ends T.reports self.old)
-            (stands T.meaning T.left T.way T.reads T.job T.ends T.reports self.new) (S.state store.old)
+        ensures took { Took session (stands T.meaning T.left T.way T.reads T.job T.ends T.reports
+            self.old)
+            (stands T.meaning T.left T.way T.reads T.job T.ends T.reports self.new)
+            (S.state store.old)
             (S.state store.new) (S.crashes store.old) (S.crashes store.new) result }
-        ensures idle { LeavesAll (stands T.meaning T.left T.way T.reads T.job T.ends T.reports self.old)
+        ensures idle { LeavesAll (stands T.meaning T.left T.way T.reads T.job T.ends T.reports
+            self.old)
             (S.state store.old) store.old store.new }
         ensures later { S.faults store.old ≤ S.faults store.new }
-        ensures rose { result ≡ Err drill.Disk → Rose (S.faults store.old) (S.faults store.new) }
+        ensures rose { result ≡ Err drill.Disk
+            → Rose (S.faults store.old) (S.faults store.new) }
     {
         let alloc = self.runner.alloc;
         let dialect = self.runner.dialect;
@@ -193,7 +204,8 @@ impl<T: Checks + Drop> Playing<T> {
         ensures shuts { (S.state store.new).live ≡ true
             → is_open session (S.state store.new).begun ≡ false }
         ensures later { S.faults store.old ≤ S.faults store.new }
-        ensures rose { result ≡ Err drill.Disk → Rose (S.faults store.old) (S.faults store.new) }
+        ensures rose { result ≡ Err drill.Disk
+            → Rose (S.faults store.old) (S.faults store.new) }
     {
         match take_lock(
             self.runner.alloc,
@@ -255,11 +267,14 @@ impl<T: Checks + Drop> Playing<T> {
             ≡ asks_open self.old.runner.hand }
         requires going { self.old.answer ≡ None }
         ensures valid { S.valid store.new }
-        ensures took { Took session (stands T.meaning T.left T.way T.reads T.job T.ends T.reports self.old)
-            (stands T.meaning T.left T.way T.reads T.job T.ends T.reports self.new) (S.state store.old)
+        ensures took { Took session (stands T.meaning T.left T.way T.reads T.job T.ends T.reports
+            self.old)
+            (stands T.meaning T.left T.way T.reads T.job T.ends T.reports self.new)
+            (S.state store.old)
             (S.state store.new) (S.crashes store.old) (S.crashes store.new) result }
         ensures later { S.faults store.old ≤ S.faults store.new }
-        ensures rose { result ≡ Err drill.Disk → Rose (S.faults store.old) (S.faults store.new) }
+        ensures rose { result ≡ Err drill.Disk
+            → Rose (S.faults store.old) (S.faults store.new) }
     {
         match hindrance(
             self.runner.alloc,
@@ -295,11 +310,14 @@ impl<T: Checks + Drop> Playing<T> {
         requires free { IsFree self.old.runner.dialect self.old.runner.stamp session
             (asks_open self.old.runner.hand) (S.state store.old) }
         ensures valid { S.valid store.new }
-        ensures took { Took session (stands T.meaning T.left T.way T.reads T.job T.ends T.reports self.old)
-            (stands T.meaning T.left T.way T.reads T.job T.ends T.reports self.new) (S.state store.old)
+        ensures took { Took session (stands T.meaning T.left T.way T.reads T.job T.ends T.reports
+            self.old)
+            (stands T.meaning T.left T.way T.reads T.job T.ends T.reports self.new)
+            (S.state store.old)
             (S.state store.new) (S.crashes store.old) (S.crashes store.new) result }
         ensures later { S.faults store.old ≤ S.faults store.new }
-        ensures rose { result ≡ Err drill.Disk → Rose (S.faults store.old) (S.faults store.new) }
+        ensures rose { result ≡ Err drill.Disk
+            → Rose (S.faults store.old) (S.faults store.new) }
     {
         match self.runner.step(session, store, sql) {
             Step::Going => {

@@ -58,7 +58,8 @@ fn is_among(names: &[Name], name: &Name) -> bool
 
 // Whether none of the columns of these names takes null.
 fn are_firm(columns: &[Column], names: &[Name]) -> bool
-    ensures { result ≡ list_all (λ x. not (is_in x.name names.now) || not x.nullable) columns.now }
+    ensures { result ≡ list_all (λ x. not (is_in x.name names.now) || not x.nullable)
+        columns.now }
 {
     for column in columns {
         if is_among(names, &column.name) && column.nullable {

@@ -12,7 +12,8 @@ pub fn append_replaced(
     file: &str,
     text: &str,
 ) -> Result<(), NoMemory>
-    ensures { OnOk result (made.new ≡ made.old ++ replaced (value_of props.now file.now) text.now) }
+    ensures { OnOk result (made.new
+        ≡ made.old ++ replaced (value_of props.now file.now) text.now) }
 {
     let mut rest = text;
     while let Some((piece, behind)) = cut_at(rest, '}') {
@@ -24,7 +25,8 @@ pub fn append_replaced(
 
 // Appends what a piece of text and the `}` behind it become.
 fn append_closed(made: &mut Text, props: &Props, file: &str, piece: &str) -> Result<(), NoMemory>
-    ensures { OnOk result (made.new ≡ made.old ++ closed (value_of props.now file.now) piece.now) }
+    ensures { OnOk result (made.new
+        ≡ made.old ++ closed (value_of props.now file.now) piece.now) }
 {
     let mut rest = piece;
     while let Some((before, behind)) = cut_at(rest, '$') {
@@ -53,7 +55,8 @@ fn used_value<'a>(props: &'a Props, file: &str, behind: &str) -> Option<&'a str>
 // The text before the first such mark, and that behind it.
 fn cut_at(text: &str, mark: char) -> Option<(&str, &str)>
     requires { mark < 128 }
-    ensures parts { option_map (λ parts. (parts.0.now, parts.1.now)) result ≡ cut_at mark text.now }
+    ensures parts { option_map (λ parts. (parts.0.now, parts.1.now)) result
+        ≡ cut_at mark text.now }
     ensures shorter { IfSome result (λ parts. length parts.1.now < length text.now) }
 {
     text.split_once(mark)

@@ -21,7 +21,8 @@ pub fn value_in_file<'a>(
     file: &str,
     name: &str,
 ) -> Option<&'a str>
-    ensures { option_map (λ value. value.now) result ≡ value_in_file files.now file.now name.now }
+    ensures { option_map (λ value. value.now) result
+        ≡ value_in_file files.now file.now name.now }
 {
     match files.get(file) {
         Some(values) => value_in(values, name),
@@ -39,7 +40,8 @@ pub fn define_in(
     ensures ok { OnOk result
         ((n : List ℕ)
         → value_in values.new n ≡ defined (value_in values.old) name.now value.now n) }
-    ensures err { OnErr result ((n : List ℕ) → value_in values.new n ≡ value_in values.old n) }
+    ensures err { OnErr result ((n : List ℕ)
+        → value_in values.new n ≡ value_in values.old n) }
 {
     if values.contains_key(name) {
         return Ok(());

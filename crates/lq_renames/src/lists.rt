@@ -176,7 +176,8 @@ pub fn foreign_keys(
     to: &Name,
     keys: &[ForeignKey],
 ) -> Result<Items<ForeignKey>, NoMemory>
-    ensures { IfOk result (λ all. all ≡ map (foreign_at table.now own from.now to.now) keys.now) }
+    ensures { IfOk result (λ all. all
+        ≡ map (foreign_at table.now own from.now to.now) keys.now) }
 {
     let mut all = Items::new(alloc);
     for key in keys {

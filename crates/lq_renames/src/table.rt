@@ -30,7 +30,8 @@ fn has_table(parts: &Parts, name: &Name) -> bool
 /// Whether neither a table nor a view has the name.
 fn is_missing(parts: &Parts, name: &Name) -> bool
     ensures { result
-        ≡ (is_none (table_of parts.now.now name.now) && is_none (view_of parts.now.now name.now)) }
+        ≡ (is_none (table_of parts.now.now name.now) && is_none
+        (view_of parts.now.now name.now)) }
 {
     match parts.table(name) {
         Some(_) => false,

@@ -35,7 +35,8 @@ pub fn back_hand(
     requires statement { is_statement of.now.dialect statement.now ≡ true }
     ensures inside { IfOk result (λ hand. hand.phase ≡ Inside) }
     ensures calls { IfOk result (λ hand. calls_left hand
-        ≡ back_calls of.now.who.now of.now.identity.now number (back of.now.dialect statement.now)) }
+        ≡ back_calls of.now.who.now of.now.identity.now number
+        (back of.now.dialect statement.now)) }
     ensures turns { IfOk result (λ hand. AreTurns of.now.dialect false (calls_left hand)) }
 {
     let mut calls = Items::new(alloc);

@@ -19,7 +19,8 @@ fn three(
     third: &Name,
 ) -> Result<(Name, (Name, Name)), NoMemory>
     ensures { IfOk result
-        (λ made. (made.0 ≡ first.now) × ((made.1.0 ≡ second.now) × (made.1.1 ≡ third.now))) }
+        (λ made. (made.0 ≡ first.now) × ((made.1.0 ≡ second.now)
+        × (made.1.1 ≡ third.now))) }
 {
     both(first.duplicate(alloc), two(alloc, second, third))
 }

@@ -87,7 +87,8 @@ pub fn edits(
     rows: &Chain<Row>,
 ) -> Result<Vec<Option<Row>>, NoMemory>
     requires { values.now ≡ map (value_set columns.now) sets.now }
-    ensures { IfOk result (λ by. by.items ≡ map (edit sets.now test.now columns.now) rows.now.now) }
+    ensures { IfOk result (λ by. by.items
+        ≡ map (edit sets.now test.now columns.now) rows.now.now) }
 {
     let mut by = Vec::new(alloc);
     for row in rows.iter() {

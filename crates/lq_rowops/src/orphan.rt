@@ -39,7 +39,8 @@ pub fn has_orphan(
     key: &ForeignKey,
 ) -> Result<bool, NoMemory>
     ensures { IfOk result
-        (λ found. found ≡ list_any (lacks_parent parts.now.now columns.now key.now) rows.now.now) }
+        (λ found. found
+        ≡ list_any (lacks_parent parts.now.now columns.now key.now) rows.now.now) }
 {
     let targets = targets(alloc, parts, key)?;
     lacks_one(alloc, columns, key.columns.as_slice(), rows, &targets)
@@ -103,7 +104,8 @@ fn child_lost(
     held: &Held,
 ) -> Result<bool, NoMemory>
     ensures { IfOk result (λ found.
-        found ≡ set_child table.now sets.now parts.now.now parts.now.now (name.now, held.now.now)) }
+        found ≡ set_child table.now sets.now parts.now.now parts.now.now
+        (name.now, held.now.now)) }
 {
     if *name == *table {
         return Ok(false);

@@ -141,7 +141,8 @@ pub fn column_missing(columns: &[Column], names: &[Name]) -> bool
 /// The columns that are stated: all in order where none is.
 pub fn stated(alloc: Global, columns: &[Column], names: &[Name]) -> Result<Items<Name>, NoMemory>
     ensures { IfOk result
-        (λ all. all ≡ cond (catalogue.is_empty names.now) (map (λ c. c.name) columns.now) names.now) }
+        (λ all. all ≡ cond (catalogue.is_empty names.now) (map (λ c. c.name) columns.now)
+        names.now) }
 {
     if names.is_empty() {
         return all_names(alloc, columns);
@@ -207,7 +208,8 @@ fn number_behind(
 ) -> Option<u64>
     ensures { IfSome result (λ after.
         after
-        ≡ cond (catalogue.is_in column.now.name stated.now) (spec.number_after dialect next value.now)
+        ≡ cond (catalogue.is_in column.now.name stated.now)
+        (spec.number_after dialect next value.now)
         (next + 1)) }
 {
     if is_in(&column.name, stated) {

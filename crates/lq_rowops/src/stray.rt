@@ -42,7 +42,8 @@ fn is_stray(
     key: &ForeignKey,
 ) -> Result<bool, NoMemory>
     ensures found { IfOk result
-        (λ found. found ≡ is_some_such (lacks_parent parts.old.now columns.now key.now) new.now) }
+        (λ found. found
+        ≡ is_some_such (lacks_parent parts.old.now columns.now key.now) new.now) }
     ensures same { parts.new ≡ parts.old }
 {
     match new {

@@ -87,7 +87,8 @@ fn index_twins(
 #[tactic(auto, using(crate::proofs::UpdateLemmas::any_three))]
 pub fn has_twins(alloc: Global, sets: &[(Name, Literal)], held: &Held) -> Result<bool, NoMemory>
     ensures { IfOk result
-        (λ found. found ≡ list_any (set_twins sets.now held.now.now) (unique_lists held.now.now)) }
+        (λ found. found
+        ≡ list_any (set_twins sets.now held.now.now) (unique_lists held.now.now)) }
 {
     if key_twins(alloc, sets, held, held.key())? {
         return Ok(true);

@@ -44,7 +44,8 @@ fn stated_by(
     sets: &[(Name, Literal)],
     test: &Option<Test>,
 ) -> Result<Stated, NoMemory>
-    ensures { IfOk result (λ stated. IsStated by table.now sets.now test.now parts.now.now stated) }
+    ensures { IfOk result (λ stated. IsStated by table.now sets.now test.now parts.now.now
+        stated) }
 {
     let columns = columns_of(parts, table);
     let set = set_values(alloc, columns, sets)?;

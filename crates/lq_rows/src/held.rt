@@ -357,7 +357,8 @@ impl Held {
 }
 
 fn null_in(columns: &[Column], rows: &Chain<Row>, column: &Name) -> bool
-    ensures { result ≡ list_any (λ row. is_null (by_name columns.now row column.now)) rows.now.now }
+    ensures { result ≡ list_any (λ row. is_null (by_name columns.now row column.now))
+        rows.now.now }
 {
     for row in rows.iter() {
         if is_null_at(columns, row.as_slice(), column) {

@@ -341,7 +341,8 @@ fn push_missing(is_there: bool, on: OnLock, deeds: &mut Items<Deed>) -> Result<(
 
 fn push_taken(alloc: Global, stamp: &Stamp, deeds: &mut Items<Deed>) -> Result<(), NoMemory>
     ensures { OnOk result
-        (deeds.new ≡ deeds.old ++ deed.Locks (on_lock.Taken stamp.now.reading stamp.now.who) ∷ []) }
+        (deeds.new ≡ deeds.old ++ deed.Locks (on_lock.Taken stamp.now.reading stamp.now.who)
+        ∷ []) }
 {
     let who = stamp.who.copy(alloc)?;
     push(Deed::Locks(OnLock::Taken(stamp.reading, who)), deeds)

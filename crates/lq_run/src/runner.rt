@@ -100,7 +100,8 @@ impl<T: Source + Drop> Runner<T> {
             (place (standing T.left T.way self.old)) }
         requires disk { disk_failed self.old.fault ≡ false }
         ensures valid { S.valid store.new }
-        ensures same { (self.new.dialect ≡ self.old.dialect) × (self.new.stamp ≡ self.old.stamp) }
+        ensures same { (self.new.dialect ≡ self.old.dialect)
+            × (self.new.stamp ≡ self.old.stamp) }
         ensures reads { T.reads self.new.source self.new.dialect }
         ensures steps { Steps self.old.dialect T.meaning self.old.stamp session
             (standing T.left T.way self.old) (standing T.left T.way self.new) (S.state store.old)
@@ -115,7 +116,8 @@ impl<T: Source + Drop> Runner<T> {
             result (S.state store.new) }
         ensures disk { disk_failed self.new.fault ≡ false }
         ensures later { S.faults store.old ≤ S.faults store.new }
-        ensures rose { is_disk_step result ≡ true → Rose (S.faults store.old) (S.faults store.new) }
+        ensures rose { is_disk_step result ≡ true
+            → Rose (S.faults store.old) (S.faults store.new) }
         ensures going { GoesOn result self.new.hand.phase }
         ensures beside { Beside session (is_disk_step result) (S.state store.old)
             (S.state store.new) }
@@ -145,7 +147,8 @@ impl<T: Source + Drop> Runner<T> {
             (calls_left self.old.hand) }
         requires disk { disk_failed self.old.fault ≡ false }
         ensures valid { S.valid store.new }
-        ensures same { (self.new.dialect ≡ self.old.dialect) × (self.new.stamp ≡ self.old.stamp) }
+        ensures same { (self.new.dialect ≡ self.old.dialect)
+            × (self.new.stamp ≡ self.old.stamp) }
         ensures reads { T.reads self.new.source self.new.dialect }
         ensures steps { Steps self.old.dialect T.meaning self.old.stamp session
             (standing T.left T.way self.old) (standing T.left T.way self.new) (S.state store.old)
@@ -160,7 +163,8 @@ impl<T: Source + Drop> Runner<T> {
             result (S.state store.new) }
         ensures disk { disk_failed self.new.fault ≡ false }
         ensures later { S.faults store.old ≤ S.faults store.new }
-        ensures rose { is_disk_step result ≡ true → Rose (S.faults store.old) (S.faults store.new) }
+        ensures rose { is_disk_step result ≡ true
+            → Rose (S.faults store.old) (S.faults store.new) }
         ensures going { GoesOn result self.new.hand.phase }
         ensures beside { Beside session (is_disk_step result) (S.state store.old)
             (S.state store.new) }
@@ -190,7 +194,8 @@ impl<T: Source + Drop> Runner<T> {
             (calls_left self.old.hand) }
         requires disk { disk_failed self.old.fault ≡ false }
         ensures valid { S.valid store.new }
-        ensures same { (self.new.dialect ≡ self.old.dialect) × (self.new.stamp ≡ self.old.stamp) }
+        ensures same { (self.new.dialect ≡ self.old.dialect)
+            × (self.new.stamp ≡ self.old.stamp) }
         ensures reads { T.reads self.new.source self.new.dialect }
         ensures steps { Steps self.old.dialect T.meaning self.old.stamp session
             (standing T.left T.way self.old) (standing T.left T.way self.new) (S.state store.old)
@@ -205,7 +210,8 @@ impl<T: Source + Drop> Runner<T> {
             result (S.state store.new) }
         ensures disk { disk_failed self.new.fault ≡ false }
         ensures later { S.faults store.old ≤ S.faults store.new }
-        ensures rose { is_disk_step result ≡ true → Rose (S.faults store.old) (S.faults store.new) }
+        ensures rose { is_disk_step result ≡ true
+            → Rose (S.faults store.old) (S.faults store.new) }
         ensures going { GoesOn result self.new.hand.phase }
         ensures beside { Beside session (is_disk_step result) (S.state store.old)
             (S.state store.new) }
@@ -239,7 +245,8 @@ impl<T: Source + Drop> Runner<T> {
         requires call { call ≡ first_coming self.old.dialect (calls_left self.old.hand) }
         requires disk { disk_failed self.old.fault ≡ false }
         ensures valid { S.valid store.new }
-        ensures same { (self.new.dialect ≡ self.old.dialect) × (self.new.stamp ≡ self.old.stamp) }
+        ensures same { (self.new.dialect ≡ self.old.dialect)
+            × (self.new.stamp ≡ self.old.stamp) }
         ensures reads { T.reads self.new.source self.new.dialect }
         ensures steps { StepsShown self.old.dialect T.meaning self.old.stamp session
             (standing T.left T.way self.old) (standing T.left T.way self.new) (S.state store.old)
@@ -252,7 +259,8 @@ impl<T: Source + Drop> Runner<T> {
             (S.crashes store.new) }
         ensures disk { disk_failed self.new.fault ≡ false }
         ensures later { S.faults store.old ≤ S.faults store.new }
-        ensures rose { is_disk_step result ≡ true → Rose (S.faults store.old) (S.faults store.new) }
+        ensures rose { is_disk_step result ≡ true
+            → Rose (S.faults store.old) (S.faults store.new) }
         ensures going { GoesOn result self.new.hand.phase }
         ensures beside { Beside session (is_disk_step result) (S.state store.old)
             (S.state store.new) }
@@ -296,7 +304,8 @@ impl<T: Source + Drop> Runner<T> {
     fn fail(&mut self, fault: StoreFault) -> Step
         requires reads { T.reads self.old.source self.old.dialect }
         requires disk { disk_failed self.old.fault ≡ false }
-        ensures same { (self.new.dialect ≡ self.old.dialect) × (self.new.stamp ≡ self.old.stamp) }
+        ensures same { (self.new.dialect ≡ self.old.dialect)
+            × (self.new.stamp ≡ self.old.stamp) }
         ensures reads { T.reads self.new.source self.new.dialect }
         ensures fails { FailsTo fault self.new.hand.phase self.new.fault result }
         ensures source { self.new.source ≡ self.old.source }
@@ -323,7 +332,8 @@ impl<T: Source + Drop> Runner<T> {
         requires open_here { is_open session (S.state store.old).begun ≡ true }
         requires disk { disk_failed self.old.fault ≡ false }
         ensures valid { S.valid store.new }
-        ensures same { (self.new.dialect ≡ self.old.dialect) × (self.new.stamp ≡ self.old.stamp) }
+        ensures same { (self.new.dialect ≡ self.old.dialect)
+            × (self.new.stamp ≡ self.old.stamp) }
         ensures reads { T.reads self.new.source self.new.dialect }
         ensures result { result ≡ step.Going }
         ensures fault { self.new.fault ≡ Some fault.OutOfMemory }
@@ -355,7 +365,8 @@ impl<T: Source + Drop> Runner<T> {
         requires open_here { is_open session (S.state store.old).begun ≡ true }
         requires disk { disk_failed self.old.fault ≡ false }
         ensures valid { S.valid store.new }
-        ensures same { (self.new.dialect ≡ self.old.dialect) × (self.new.stamp ≡ self.old.stamp) }
+        ensures same { (self.new.dialect ≡ self.old.dialect)
+            × (self.new.stamp ≡ self.old.stamp) }
         ensures reads { T.reads self.new.source self.new.dialect }
         ensures steps { Steps self.old.dialect T.meaning self.old.stamp session
             (standing T.left T.way self.old) (standing T.left T.way self.new) (S.state store.old)
@@ -370,7 +381,8 @@ impl<T: Source + Drop> Runner<T> {
             result (S.state store.new) }
         ensures disk { disk_failed self.new.fault ≡ false }
         ensures later { S.faults store.old ≤ S.faults store.new }
-        ensures rose { is_disk_step result ≡ true → Rose (S.faults store.old) (S.faults store.new) }
+        ensures rose { is_disk_step result ≡ true
+            → Rose (S.faults store.old) (S.faults store.new) }
         ensures going { GoesOn result self.new.hand.phase }
         ensures beside { Beside session (is_disk_step result) (S.state store.old)
             (S.state store.new) }
@@ -399,7 +411,8 @@ impl<T: Source + Drop> Runner<T> {
         requires closed { is_open session (S.state store.old).begun ≡ false }
         requires disk { disk_failed self.old.fault ≡ false }
         ensures valid { S.valid store.new }
-        ensures same { (self.new.dialect ≡ self.old.dialect) × (self.new.stamp ≡ self.old.stamp) }
+        ensures same { (self.new.dialect ≡ self.old.dialect)
+            × (self.new.stamp ≡ self.old.stamp) }
         ensures reads { T.reads self.new.source self.new.dialect }
         ensures steps { Steps self.old.dialect T.meaning self.old.stamp session
             (standing T.left T.way self.old) (standing T.left T.way self.new) (S.state store.old)
@@ -414,7 +427,8 @@ impl<T: Source + Drop> Runner<T> {
             result (S.state store.new) }
         ensures disk { disk_failed self.new.fault ≡ false }
         ensures later { S.faults store.old ≤ S.faults store.new }
-        ensures rose { is_disk_step result ≡ true → Rose (S.faults store.old) (S.faults store.new) }
+        ensures rose { is_disk_step result ≡ true
+            → Rose (S.faults store.old) (S.faults store.new) }
         ensures going { GoesOn result self.new.hand.phase }
         ensures beside { Beside session (is_disk_step result) (S.state store.old)
             (S.state store.new) }
@@ -454,7 +468,8 @@ impl<T: Source + Drop> Runner<T> {
             (λ lock. HoldsAs self.old.stamp lock is_marked) }
         requires disk { disk_failed self.old.fault ≡ false }
         ensures valid { S.valid store.new }
-        ensures same { (self.new.dialect ≡ self.old.dialect) × (self.new.stamp ≡ self.old.stamp) }
+        ensures same { (self.new.dialect ≡ self.old.dialect)
+            × (self.new.stamp ≡ self.old.stamp) }
         ensures reads { T.reads self.new.source self.new.dialect }
         ensures steps { Steps self.old.dialect T.meaning self.old.stamp session
             (standing T.left T.way self.old) (standing T.left T.way self.new) (S.state store.old)
@@ -467,7 +482,8 @@ impl<T: Source + Drop> Runner<T> {
             (S.crashes store.old) (S.crashes store.new) }
         ensures disk { disk_failed self.new.fault ≡ false }
         ensures later { S.faults store.old ≤ S.faults store.new }
-        ensures rose { is_disk_step result ≡ true → Rose (S.faults store.old) (S.faults store.new) }
+        ensures rose { is_disk_step result ≡ true
+            → Rose (S.faults store.old) (S.faults store.new) }
         ensures going { GoesOn result self.new.hand.phase }
         ensures beside { Beside session (is_disk_step result) (S.state store.old)
             (S.state store.new) }
@@ -505,7 +521,8 @@ impl<T: Source + Drop> Runner<T> {
             (λ lock. HoldsAs self.old.stamp lock is_marked) }
         requires disk { disk_failed self.old.fault ≡ false }
         ensures valid { S.valid store.new }
-        ensures same { (self.new.dialect ≡ self.old.dialect) × (self.new.stamp ≡ self.old.stamp) }
+        ensures same { (self.new.dialect ≡ self.old.dialect)
+            × (self.new.stamp ≡ self.old.stamp) }
         ensures reads { T.reads self.new.source self.new.dialect }
         ensures steps { Steps self.old.dialect T.meaning self.old.stamp session
             (standing T.left T.way self.old) (standing T.left T.way self.new) (S.state store.old)
@@ -518,7 +535,8 @@ impl<T: Source + Drop> Runner<T> {
             (S.crashes store.old) (S.crashes store.new) }
         ensures disk { disk_failed self.new.fault ≡ false }
         ensures later { S.faults store.old ≤ S.faults store.new }
-        ensures rose { is_disk_step result ≡ true → Rose (S.faults store.old) (S.faults store.new) }
+        ensures rose { is_disk_step result ≡ true
+            → Rose (S.faults store.old) (S.faults store.new) }
         ensures going { GoesOn result self.new.hand.phase }
         ensures beside { Beside session (is_disk_step result) (S.state store.old)
             (S.state store.new) }
@@ -568,7 +586,8 @@ impl<T: Source + Drop> Runner<T> {
             (λ lock. HoldsAs self.old.stamp lock is_marked) }
         requires disk { disk_failed self.old.fault ≡ false }
         ensures valid { S.valid store.new }
-        ensures same { (self.new.dialect ≡ self.old.dialect) × (self.new.stamp ≡ self.old.stamp) }
+        ensures same { (self.new.dialect ≡ self.old.dialect)
+            × (self.new.stamp ≡ self.old.stamp) }
         ensures reads { T.reads self.new.source self.new.dialect }
         ensures ends { EndsFor self.old.dialect T.meaning self.old.stamp session self.old.fault
             self.old.refused (S.state store.old) result (S.state store.new) }
@@ -577,7 +596,8 @@ impl<T: Source + Drop> Runner<T> {
         ensures source { self.new.source ≡ self.old.source }
         ensures disk { disk_failed self.new.fault ≡ false }
         ensures later { S.faults store.old ≤ S.faults store.new }
-        ensures rose { is_disk_step result ≡ true → Rose (S.faults store.old) (S.faults store.new) }
+        ensures rose { is_disk_step result ≡ true
+            → Rose (S.faults store.old) (S.faults store.new) }
         ensures going { GoesOn result self.new.hand.phase }
         ensures beside { Beside session (is_disk_step result) (S.state store.old)
             (S.state store.new) }
@@ -615,7 +635,8 @@ impl<T: Source + Drop> Runner<T> {
         requires fault { self.old.fault ≡ Some fault }
         requires disk { disk_failed self.old.fault ≡ false }
         ensures valid { S.valid store.new }
-        ensures same { (self.new.dialect ≡ self.old.dialect) × (self.new.stamp ≡ self.old.stamp) }
+        ensures same { (self.new.dialect ≡ self.old.dialect)
+            × (self.new.stamp ≡ self.old.stamp) }
         ensures reads { T.reads self.new.source self.new.dialect }
         ensures ends { EndsFor self.old.dialect T.meaning self.old.stamp session (Some fault)
             self.old.refused (S.state store.old) result (S.state store.new) }
@@ -624,7 +645,8 @@ impl<T: Source + Drop> Runner<T> {
         ensures source { self.new.source ≡ self.old.source }
         ensures disk { disk_failed self.new.fault ≡ false }
         ensures later { S.faults store.old ≤ S.faults store.new }
-        ensures rose { is_disk_step result ≡ true → Rose (S.faults store.old) (S.faults store.new) }
+        ensures rose { is_disk_step result ≡ true
+            → Rose (S.faults store.old) (S.faults store.new) }
         ensures going { GoesOn result self.new.hand.phase }
         ensures beside { Beside session (is_disk_step result) (S.state store.old)
             (S.state store.new) }
@@ -652,7 +674,8 @@ impl<T: Source + Drop> Runner<T> {
         requires closed { is_open session (S.state store.old).begun ≡ false }
         requires disk { disk_failed self.old.fault ≡ false }
         ensures valid { S.valid store.new }
-        ensures same { (self.new.dialect ≡ self.old.dialect) × (self.new.stamp ≡ self.old.stamp) }
+        ensures same { (self.new.dialect ≡ self.old.dialect)
+            × (self.new.stamp ≡ self.old.stamp) }
         ensures reads { T.reads self.new.source self.new.dialect }
         ensures closes { ClosesFor self.old.dialect T.meaning self.old.stamp session
             (last_end self.old.fault self.old.refused) (S.state store.old) result
@@ -662,7 +685,8 @@ impl<T: Source + Drop> Runner<T> {
         ensures source { self.new.source ≡ self.old.source }
         ensures disk { disk_failed self.new.fault ≡ false }
         ensures later { S.faults store.old ≤ S.faults store.new }
-        ensures rose { is_disk_step result ≡ true → Rose (S.faults store.old) (S.faults store.new) }
+        ensures rose { is_disk_step result ≡ true
+            → Rose (S.faults store.old) (S.faults store.new) }
         ensures going { GoesOn result self.new.hand.phase }
         ensures beside { Beside session (is_disk_step result) (S.state store.old)
             (S.state store.new) }

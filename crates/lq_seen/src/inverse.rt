@@ -44,7 +44,8 @@ pub fn undoing(
 ) -> Result<Option<Items<Statement>>, NoMemory>
     requires read { is_read_for dialect set.now ≡ true }
     ensures { IfOk result
-        (λ made. (options : Options) → made ≡ undoing dialect any_meaning (view options set.now)) }
+        (λ made. (options : Options)
+        → made ≡ undoing dialect any_meaning (view options set.now)) }
 {
     match &set.rollback {
         Some(block) => {

@@ -30,7 +30,8 @@ pub struct Halt {
 impl Outcome {
     /// That of a command that has done nothing.
     pub fn new(alloc: Global) -> Outcome
-        ensures done { (result.happened ≡ []) × (result.warned ≡ []) × (result.not_fresh ≡ 0) }
+        ensures done { (result.happened ≡ []) × (result.warned ≡ [])
+            × (result.not_fresh ≡ 0) }
         ensures unstopped { (result.halted ≡ None) × (result.stopped_at ≡ None) }
         ensures unprinted { result.printed ≡ [] }
     {

@@ -132,7 +132,8 @@ pub fn mark_turn(
 
 /// The turn of a changeset whose row gets its checksum.
 pub fn fill_turn(alloc: Global, set: &ChangeSet) -> Result<Turn, NoMemory>
-    ensures { IfOk result (λ turn. (options : Options) → turn ≡ fill_turn (view options set.now)) }
+    ensures { IfOk result (λ turn. (options : Options)
+        → turn ≡ fill_turn (view options set.now)) }
 {
     let identity = set.identity.duplicate(alloc)?;
     let sum = set.sum.copy(alloc)?;

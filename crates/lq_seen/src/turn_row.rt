@@ -22,7 +22,8 @@ pub fn row_of_turn(
 ) -> Result<Tracked, NoMemory>
     requires moment { reading ≤ 253402300799999 }
     ensures { IfOk result
-        (λ row. (options : Options) → row ≡ row_for reading order exec (view options set.now)) }
+        (λ row. (options : Options)
+        → row ≡ row_for reading order exec (view options set.now)) }
 {
     let description = described(alloc, set.changes.as_slice())?;
     let tag = tag_of(alloc, set.changes.as_slice())?;

@@ -25,7 +25,8 @@ pub fn look<'a, E: Executor>(
     ensures engine { IfOk result (λ view. view.now ≡ engine.now) }
     ensures alone { MatchResult result
         (λ view. other_in session (begun_in (E.held engine.now) begun.now) ≡ None)
-        (λ fault. (n : ℕ) × (fault ≡ Busy n) × (other_in session (begun_in (E.held engine.now) begun.now) ≡ Some n)) }
+        (λ fault. (n : ℕ) × (fault ≡ Busy n)
+        × (other_in session (begun_in (E.held engine.now) begun.now) ≡ Some n)) }
 {
     match begun {
         None => Ok(engine),
@@ -69,8 +70,12 @@ pub fn commit<D: Disk, E: Executor>(
         ≡ side (E.held engine.old) begun.old lock.old) }
     ensures whole { UnlessDisk result
         (IsWhole (D.told (disk_of journal.new)) (D.crashes (disk_of journal.new)) journal.new) }
-    ensures crash { LeavesFront (log_of (D.told (disk_of journal.old)) journal.old).entries (entries_of begun.old.entry)
-        (crashes_in (dialect_of journal.old) (limit_of journal.old) (D.crashes (disk_of journal.old))) (crashes_in (dialect_of journal.new) (limit_of journal.new) (D.crashes (disk_of journal.new))) }
+    ensures crash { LeavesFront (log_of (D.told (disk_of journal.old)) journal.old).entries
+        (entries_of begun.old.entry)
+        (crashes_in (dialect_of journal.old) (limit_of journal.old)
+        (D.crashes (disk_of journal.old)))
+        (crashes_in (dialect_of journal.new) (limit_of journal.new)
+        (D.crashes (disk_of journal.new))) }
     ensures later { D.faults (disk_of journal.old) ≤ D.faults (disk_of journal.new) }
     ensures rose { result ≡ Err AppendFault.Disk
         → Rose (D.faults (disk_of journal.old)) (D.faults (disk_of journal.new)) }

@@ -104,7 +104,8 @@ fn stale_at<K: Look>(dialect: Dialect, set: &ChangeSet, beginning: Option<usize>
 /// The same of the change at this place, if there is one.
 fn stale_one<K: Look>(dialect: Dialect, set: &ChangeSet, place: usize, look: &K) -> u64
     requires read { list_all (is_for dialect) set.now.changes ≡ true }
-    ensures { result ≡ stale_one dialect (slice_get set.now.changes place) (K.catalogue look.now) }
+    ensures { result ≡ stale_one dialect (slice_get set.now.changes place)
+        (K.catalogue look.now) }
 {
     match set.changes.get(place) {
         Some(change) => stale_change(dialect, change, look),

@@ -207,7 +207,8 @@ fn choose<K: Look>(
         → options.dialect ≡ dialect
         → StandsFor dialect (K.catalogue look.now) database
         → made ≡ choice_of (view options set.now) (contents_of database) (Some what)) }
-    ensures told { IfOk result (λ made. outcome.new ≡ told_by set.now.identity made outcome.old) }
+    ensures told { IfOk result (λ made. outcome.new
+        ≡ told_by set.now.identity made outcome.old) }
     ensures unwarned { OnErr result (outcome.new.warned ≡ outcome.old.warned) }
 {
     let choice = seen_choice(alloc, what, set, dialect, look)?;

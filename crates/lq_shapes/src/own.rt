@@ -45,7 +45,8 @@ pub fn lacks_own(own: &Columns<'_>, new: &NewTable<'_>) -> bool
 }
 
 fn key_repeats(alloc: Global, key: &Option<Key>) -> Result<bool, NoMemory>
-    ensures { IfOk result (λ found. found ≡ list_any (λ k. repeats k.columns) (key_list key.now)) }
+    ensures { IfOk result (λ found. found
+        ≡ list_any (λ k. repeats k.columns) (key_list key.now)) }
 {
     match key {
         None => Ok(false),
@@ -77,7 +78,8 @@ fn foreign_repeats(alloc: Global, keys: &[ForeignKey]) -> Result<bool, NoMemory>
 }
 
 fn one_repeats(alloc: Global, key: &ForeignKey) -> Result<bool, NoMemory>
-    ensures { IfOk result (λ found. found ≡ (repeats key.now.columns || repeats key.now.targets)) }
+    ensures { IfOk result (λ found. found
+        ≡ (repeats key.now.columns || repeats key.now.targets)) }
 {
     let columns = repeats_in(alloc, key.columns.as_slice())?;
     let targets = repeats_in(alloc, key.targets.as_slice())?;
@@ -97,7 +99,8 @@ fn columns_repeat(alloc: Global, columns: &[Column]) -> Result<bool, NoMemory>
 pub fn lists_twice(alloc: Global, columns: &[Column], new: &NewTable<'_>) -> Result<bool, NoMemory>
     ensures { IfOk result (λ found.
         found
-        ≡ lists_twice (made columns.now new.now.key.now new.now.uniques.now new.now.foreign.now)) }
+        ≡ lists_twice (made columns.now new.now.key.now new.now.uniques.now
+        new.now.foreign.now)) }
 {
     let own = columns_repeat(alloc, columns)?;
     let key = key_repeats(alloc, new.key)?;

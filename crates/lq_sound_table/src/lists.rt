@@ -87,7 +87,8 @@ fn indexes_fit(alloc: Global, own: &Columns<'_>, indexes: &[Index]) -> Result<bo
 
 /// Whether each foreign key names at least one of the columns, none twice.
 pub fn foreign_fit(alloc: Global, own: &Columns<'_>, keys: &[ForeignKey]) -> Result<bool, NoMemory>
-    ensures { IfOk result (λ fits. fits ≡ list_all (λ f. are_some_of own.now f.columns) keys.now) }
+    ensures { IfOk result (λ fits. fits
+        ≡ list_all (λ f. are_some_of own.now f.columns) keys.now) }
 {
     for key in keys {
         if !are_some_of(alloc, own, key.columns.as_slice())? {

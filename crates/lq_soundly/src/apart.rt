@@ -29,7 +29,8 @@ fn push_entries<'a, T>(to: &mut Items<&'a Name>, entries: &'a [(Name, T)]) -> Re
 
 fn push_tables<'a>(to: &mut Items<&'a Name>, entries: &'a [(Name, Held)]) -> Result<(), NoMemory>
     ensures { OnOk result (map
-        (λ n. n.now) to.new ≡ map (λ n. n.now) to.old ++ map (λ e. e.0) (tables_of entries.now)) }
+        (λ n. n.now) to.new
+        ≡ map (λ n. n.now) to.old ++ map (λ e. e.0) (tables_of entries.now)) }
 {
     let mut rest = entries;
     while let [entry, after @ ..] = rest {

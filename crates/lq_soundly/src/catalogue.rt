@@ -95,7 +95,8 @@ fn unlike_in(
 
 fn is_unlike_in(alloc: Global, parts: &Parts, held: &Held) -> Result<bool, NoMemory>
     ensures { IfOk result
-        (λ found. found ≡ list_any (kinds_differ parts.now.now held.now.now) held.now.now.foreign) }
+        (λ found. found
+        ≡ list_any (kinds_differ parts.now.now held.now.now) held.now.now.foreign) }
 {
     unlike_in(alloc, parts, held.columns(), held.foreign_keys())
 }

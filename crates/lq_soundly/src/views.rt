@@ -55,7 +55,8 @@ fn is_view(alloc: Global, parts: &Parts, view: &View) -> Result<bool, NoMemory>
 
 /// Whether each view is sound.
 pub fn are_views(alloc: Global, parts: &Parts, entries: &[(Name, View)]) -> Result<bool, NoMemory>
-    ensures { IfOk result (λ fits. fits ≡ list_all (λ e. is_view parts.now.now e.1) entries.now) }
+    ensures { IfOk result (λ fits. fits
+        ≡ list_all (λ e. is_view parts.now.now e.1) entries.now) }
 {
     for entry in entries {
         if !is_view(alloc, parts, &entry.1)? {

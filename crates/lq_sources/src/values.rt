@@ -11,7 +11,8 @@ use std::alloc::Global;
 /// A text of a file with the properties put in.
 #[tactic(auto, unfolding(lq_props::specs::Props::value_of))]
 fn text_filled(alloc: Global, props: &Props, file: &str, text: &Text) -> Result<Text, NoMemory>
-    ensures { IfOk result (λ made. made ≡ replaced (value_in (own props.now) file.now) text.now) }
+    ensures { IfOk result (λ made. made
+        ≡ replaced (value_in (own props.now) file.now) text.now) }
 {
     props.replace(alloc, file, text.as_str())
 }

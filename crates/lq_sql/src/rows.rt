@@ -38,7 +38,8 @@ pub fn insert(
     values: &Items<Literal>,
 ) -> Result<(), NoMemory>
     ensures { OnOk result
-        (to.new ≡ to.old ++ text_of style.dialect (made.Insert table.now columns.now values.now)) }
+        (to.new ≡ to.old
+        ++ text_of style.dialect (made.Insert table.now columns.now values.now)) }
 {
     spell_name(style, to, Phrase::InsertInto, table)?;
     spell_columns(style, to, columns.as_slice())?;

@@ -55,7 +55,8 @@ pub fn spell_after_commas<T: Spell>(
     to: &mut Text,
     items: &[T],
 ) -> Result<(), NoMemory>
-    ensures { OnOk result (to.new ≡ to.old ++ after_commas (map (T.text style.dialect) items.now)) }
+    ensures { OnOk result (to.new
+        ≡ to.old ++ after_commas (map (T.text style.dialect) items.now)) }
 {
     let mut rest = items;
     while let [item, others @ ..] = rest {

@@ -30,7 +30,8 @@ fn spell_table(
     foreign: &Items<ForeignKey>,
 ) -> Result<(), NoMemory>
     ensures { OnOk result
-        (to.new ≡ to.old ++ table_text style.dialect columns.now key.now uniques.now foreign.now) }
+        (to.new ≡ to.old
+        ++ table_text style.dialect columns.now key.now uniques.now foreign.now) }
 {
     spell_listed(style, to, columns.as_slice())?;
     spell_key(style, to, key)?;

@@ -86,7 +86,8 @@ pub fn attributes(
     words: &[&str],
     text: &str,
 ) -> Result<Option<Items<(Text, Text)>>, NoMemory>
-    ensures { IfOk result (λ found. found ≡ attributes_in (map (λ w. w.now) words.now) text.now) }
+    ensures { IfOk result (λ found. found
+        ≡ attributes_in (map (λ w. w.now) words.now) text.now) }
 {
     let mut given = Items::new(alloc);
     let mut rest = text;

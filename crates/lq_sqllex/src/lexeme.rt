@@ -19,10 +19,12 @@ pub struct Lexeme<'a> {
 pub fn lexeme_at<'a>(dialect: Dialect, text: &'a [u8]) -> Option<Lexeme<'a>>
     requires { 0 < length text.now }
     ensures sort { IfSome result (λ it. it.sort ≡ sort_at dialect text.now) }
-    ensures length { IfSome result (λ it. length_at dialect text.now ≡ Some (length it.bytes.now)) }
+    ensures length { IfSome result (λ it. length_at dialect text.now
+        ≡ Some (length it.bytes.now)) }
     ensures some { IfSome result (λ it. 0 < length it.bytes.now) }
     ensures whole { IfSome result (λ it. text.now ≡ it.bytes.now ++ it.rest.now) }
-    ensures more { IfSome result (λ it. lexemes dialect text.now ≡ option_map (λ more. (it.sort, it.bytes.now) ∷ more) (lexemes dialect it.rest.now)) }
+    ensures more { IfSome result (λ it. lexemes dialect text.now
+        ≡ option_map (λ more. (it.sort, it.bytes.now) ∷ more) (lexemes dialect it.rest.now)) }
     ensures unclosed { result ≡ None → length_at dialect text.now ≡ None }
     ensures none { result ≡ None → lexemes dialect text.now ≡ None }
 {

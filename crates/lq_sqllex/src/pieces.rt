@@ -83,7 +83,8 @@ pub fn split(
 ) -> Result<Items<Text>, SplitFault>
     requires { 0 < length delimiter.now }
     ensures pieces { IfOk result (λ found. pieces dialect text.now delimiter.now ≡ Some found) }
-    ensures unclosed { result ≡ Err SplitFault.Unclosed → pieces dialect text.now delimiter.now ≡ None }
+    ensures unclosed { result ≡ Err SplitFault.Unclosed
+        → pieces dialect text.now delimiter.now ≡ None }
 {
     // A longer delimiter is compared whole only where so much of it stands.
     let front = &delimiter.as_bytes()[..delimiter.len().min(32)];

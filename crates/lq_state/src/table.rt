@@ -159,7 +159,8 @@ fn counted_rows_in(
     bytes: &[u8],
     width: usize,
 ) -> Result<Option<(Items<Items<Value>>, &[u8])>, NoMemory>
-    ensures { IfOk result (λ found. MatchOption found ((rows_of_width width).read bytes.now ≡ None)
+    ensures { IfOk result (λ found. MatchOption found
+        ((rows_of_width width).read bytes.now ≡ None)
         (λ next. (rows_of_width width).read bytes.now ≡ Some (next.0, next.1.now))) }
 {
     let Some((n, rest)) = number(bytes) else {

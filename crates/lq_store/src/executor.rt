@@ -24,7 +24,8 @@ pub trait Executor: Look {
     /// fault changes nothing.
     fn run(&mut self, by: By, statement: &Statement) -> Result<u64, RunFault>
         requires { is_statement (held self.old).dialect statement.now ≡ true }
-        ensures { Runs (step by (held self.old).dialect statement.now (held self.old).now) (held self.old) (held self.new) result };
+        ensures { Runs (step by (held self.old).dialect statement.now (held self.old).now)
+            (held self.old) (held self.new) result };
 
     /// Gives the catalogue before the last `run` that answered a number and is not undone; called again,
     /// before the one before it. It takes no memory.

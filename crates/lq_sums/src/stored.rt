@@ -13,7 +13,8 @@ fn is_old_form(stored: &str) -> bool
 
 /// Of a changeset's checksums in the old form and in the new one, that of a stored one's form.
 pub fn sum_by_form<'a>(old: &'a Text, new: &'a Text, stored: &Text) -> &'a Text
-    ensures { result.now ≡ (if starts_with eqb stored.now (codes "P1:") then old.now else new.now) }
+    ensures { result.now ≡ (if starts_with eqb stored.now (codes "P1:") then old.now else
+        new.now) }
 {
     if is_old_form(stored.as_str()) {
         old

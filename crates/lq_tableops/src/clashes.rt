@@ -93,7 +93,8 @@ fn each_shared(
 ) -> Result<bool, NoMemory>
     ensures found { IfOk result (λ found.
         found
-        ≡ list_any (λ n. is_in (beside table.now n.now) (shared_names parts.old.now)) names.now) }
+        ≡ list_any (λ n. is_in (beside table.now n.now) (shared_names parts.old.now))
+        names.now) }
     ensures same { parts.new ≡ parts.old }
 {
     for name in names {
@@ -124,7 +125,8 @@ pub fn one_shared(
 
 fn each_foreign(parts: &mut Parts, names: &[&Name]) -> Result<bool, NoMemory>
     ensures found { IfOk result
-        (λ found. found ≡ list_any (λ n. is_in n.now (all_foreign_names parts.old.now)) names.now) }
+        (λ found. found
+        ≡ list_any (λ n. is_in n.now (all_foreign_names parts.old.now)) names.now) }
     ensures same { parts.new ≡ parts.old }
 {
     for name in names {
@@ -140,7 +142,8 @@ fn each_foreign(parts: &mut Parts, names: &[&Name]) -> Result<bool, NoMemory>
 pub fn one_foreign(parts: &mut Parts, names: &[&Name]) -> Result<bool, NoMemory>
     ensures found { IfOk result (λ found.
         found
-        ≡ list_any (λ n. is_in n (all_foreign_names parts.old.now)) (map (λ n. n.now) names.now)) }
+        ≡ list_any (λ n. is_in n (all_foreign_names parts.old.now))
+        (map (λ n. n.now) names.now)) }
     ensures same { parts.new ≡ parts.old }
 {
     let found = each_foreign(parts, names)?;

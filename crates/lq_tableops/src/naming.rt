@@ -174,7 +174,8 @@ fn foreign_repeat(alloc: Global, keys: &[ForeignKey]) -> Result<bool, NoMemory>
 fn foreign_taken(parts: &mut Parts, alloc: Global, keys: &[ForeignKey]) -> Result<bool, NoMemory>
     ensures found { IfOk result (λ found.
         found
-        ≡ list_any (λ n. is_in n (all_foreign_names parts.old.now)) (map (λ f. f.name) keys.now)) }
+        ≡ list_any (λ n. is_in n (all_foreign_names parts.old.now))
+        (map (λ f. f.name) keys.now)) }
     ensures same { parts.new ≡ parts.old }
 {
     let mut names = Items::new(alloc);

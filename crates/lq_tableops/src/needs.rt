@@ -23,7 +23,8 @@ pub fn is_viewed(parts: &Parts, table: &Name) -> bool
 // Most tables have no foreign keys: then no names are compared.
 #[tactic(auto, using(crate::proofs::TargetLemmas::turned))]
 fn is_other_aiming(table: &Name, name: &Name, held: &Held) -> bool
-    ensures { result ≡ (not (is_named table.now name.now) && targets_table table.now held.now.now) }
+    ensures { result ≡ (not (is_named table.now name.now) && targets_table table.now
+        held.now.now) }
 {
     targets_table(table, held) && *table != *name
 }

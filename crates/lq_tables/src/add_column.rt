@@ -281,7 +281,8 @@ impl AddedColumn {
 
     fn set(&self, alloc: Global, table: &Name, value: &GivenValue) -> Result<Statement, NoMemory>
         ensures { IfOk result (λ made.
-            made ≡ statement.Update table.now ((self.now.name, literal_of value.now) ∷ []) None) }
+            made ≡ statement.Update table.now ((self.now.name, literal_of value.now) ∷ [])
+            None) }
     {
         let (table, sets) = both(table.duplicate(alloc), self.filled(alloc, value))?;
         Ok(Statement::Update {
@@ -324,7 +325,8 @@ impl AddedColumn {
         to: &mut Items<Statement>,
     ) -> Result<(), NoMemory>
         ensures { OnOk result
-            (to.new ≡ to.old ++ sets dialect table.now self.now self.now.value (is_firm self.now)) }
+            (to.new ≡ to.old
+            ++ sets dialect table.now self.now self.now.value (is_firm self.now)) }
     {
         let Some(value) = &self.value else {
             return Ok(());
@@ -342,7 +344,8 @@ impl AddedColumn {
         table: &Name,
         to: &mut Items<Statement>,
     ) -> Result<(), NoMemory>
-        ensures { OnOk result (to.new ≡ to.old ++ joins table.now (unique_of table.now self.now)) }
+        ensures { OnOk result (to.new
+            ≡ to.old ++ joins table.now (unique_of table.now self.now)) }
     {
         let (table, unique) = both(table.duplicate(alloc), self.unique(alloc, table))?;
         let Some(unique) = unique else {
@@ -451,7 +454,8 @@ fn made(
     table: &Name,
     columns: &[AddedColumn],
 ) -> Result<Items<Statement>, NoMemory>
-    ensures { IfOk result (λ made. made ≡ flat_map (column_gives dialect table.now) columns.now) }
+    ensures { IfOk result (λ made. made
+        ≡ flat_map (column_gives dialect table.now) columns.now) }
 {
     let mut made = Items::new(alloc);
     let mut rest = columns;

@@ -27,7 +27,8 @@ pub fn tell<O: Sink, L: Sink>(
 ) -> Status
     ensures status { EndsAs (status_done done) result }
     ensures write { result ≡ Status.WriteFault
-        → (status_done done ≡ Status.WriteFault) ⊎ Rose (O.faults out.old) (O.faults out.new) }
+        → (status_done done ≡ Status.WriteFault) ⊎ Rose (O.faults out.old)
+        (O.faults out.new) }
     ensures cut { result ≡ Status.WriteFault
         → (status_done done ≡ Status.WriteFault) ⊎ IsTrue (has_output (status_done done)) }
     ensures had { result ≡ Status.WriteFault
@@ -62,7 +63,8 @@ fn write_told<O: Sink, L: Sink>(told: Told, out: &mut O, log: &mut L) -> Status
         → (told.status ≡ Status.WriteFault) ⊎ IsTrue (is_some told.out) }
     ensures silent { IsSilent result → O.told out.new ≡ O.told out.old }
     ensures whole { IsTrue (has_output result)
-        → O.told out.new ≡ option_map (λ before. before ++ text_or_none told.out) (O.told out.old) }
+        → O.told out.new
+        ≡ option_map (λ before. before ++ text_or_none told.out) (O.told out.old) }
     ensures part { IsPart (text_or_none told.out) (O.told out.old) (O.told out.new) }
     ensures logged { (tag : Option (List ℕ)) (done : Result Done Status)
         → HasTexts tag done told
@@ -113,7 +115,8 @@ fn write_text<O: Sink>(status: &Status, text: &Option<Text>, out: &mut O) -> Res
 fn write_some<O: Sink>(text: &Option<Text>, out: &mut O) -> Result<(), SinkFailed>
     ensures none { is_some text.now ≡ false → result ≡ Ok tt }
     ensures whole { OnOk result
-        (O.told out.new ≡ option_map (λ before. before ++ text_or_none text.now) (O.told out.old)) }
+        (O.told out.new
+        ≡ option_map (λ before. before ++ text_or_none text.now) (O.told out.old)) }
     ensures part { IsPart (text_or_none text.now) (O.told out.old) (O.told out.new) }
     ensures failed { OnErr result (Rose (O.faults out.old) (O.faults out.new)) }
 {

@@ -78,7 +78,8 @@ pub fn on_copy<D: Disk, C: Clock, P: SqlText + Drop + Copy>(
         → FailsAt at result }
     ensures kind { IsOfDatabase result }
     ensures later { D.faults disk.old ≤ D.faults disk.new }
-    ensures fault { result ≡ Err status.DiskFault → Rose (D.faults disk.old) (D.faults disk.new) }
+    ensures fault { result ≡ Err status.DiskFault
+        → Rose (D.faults disk.old) (D.faults disk.new) }
     ensures once { ReadAtMostOnce (C.to_come clock.old) (C.to_come clock.new) (C.last clock.new) }
 {
     match copy_of(alloc, disk) {
@@ -201,7 +202,8 @@ fn print_on<S: Store, P: SqlText>(
 
 fn in_memory(done: Result<Done, Status>) -> Result<Done, Status>
     ensures copied { result ≡ copied done }
-    ensures refused { (refused : Option Status) → Answers refused done → Answers refused result }
+    ensures refused { (refused : Option Status) → Answers refused done
+        → Answers refused result }
     ensures tells { (job : Job) (given : Given) (database : Database)
         → TellsJob job given database done
         → TellsJob job given database result }
@@ -232,14 +234,17 @@ pub fn copy_status(status: Status) -> Status
 // and not read.
 fn copy_of<D: Disk>(alloc: Global, disk: &mut D) -> Result<SureDisk, Status>
     ensures copied { IfOk result
-        (λ copy. IfSome (D.told disk.old) (λ bytes. ⟦<SureDisk as Disk>⟧.told copy ≡ Some bytes)) }
+        (λ copy. IfSome (D.told disk.old)
+        (λ bytes. ⟦<SureDisk as Disk>⟧.told copy ≡ Some bytes)) }
     ensures refused { IfErr result (IsNoCopy (D.told disk.old)) }
     ensures told { D.told disk.new ≡ D.told disk.old }
     ensures any_moment { LeavesOnly (D.crashes disk.old) (D.crashes disk.new)
         (D.crashes disk.old).leaves }
     ensures later { D.faults disk.old ≤ D.faults disk.new }
-    ensures failed { result ≡ Err status.DiskFault → Rose (D.faults disk.old) (D.faults disk.new) }
-    ensures unfailed { (result ≡ Err status.DiskFault) ⊎ (D.faults disk.new ≡ D.faults disk.old) }
+    ensures failed { result ≡ Err status.DiskFault
+        → Rose (D.faults disk.old) (D.faults disk.new) }
+    ensures unfailed { (result ≡ Err status.DiskFault) ⊎
+        (D.faults disk.new ≡ D.faults disk.old) }
 {
     match disk.size() {
         Ok(size) => copy_sized(alloc, disk, size),
@@ -250,14 +255,17 @@ fn copy_of<D: Disk>(alloc: Global, disk: &mut D) -> Result<SureDisk, Status>
 fn copy_sized<D: Disk>(alloc: Global, disk: &mut D, size: u64) -> Result<SureDisk, Status>
     requires size { IfSome (D.told disk.old) (λ bytes. size ≡ length bytes) }
     ensures copied { IfOk result
-        (λ copy. IfSome (D.told disk.old) (λ bytes. ⟦<SureDisk as Disk>⟧.told copy ≡ Some bytes)) }
+        (λ copy. IfSome (D.told disk.old)
+        (λ bytes. ⟦<SureDisk as Disk>⟧.told copy ≡ Some bytes)) }
     ensures refused { IfErr result (IsNoCopy (D.told disk.old)) }
     ensures told { D.told disk.new ≡ D.told disk.old }
     ensures any_moment { LeavesOnly (D.crashes disk.old) (D.crashes disk.new)
         (D.crashes disk.old).leaves }
     ensures later { D.faults disk.old ≤ D.faults disk.new }
-    ensures failed { result ≡ Err status.DiskFault → Rose (D.faults disk.old) (D.faults disk.new) }
-    ensures unfailed { (result ≡ Err status.DiskFault) ⊎ (D.faults disk.new ≡ D.faults disk.old) }
+    ensures failed { result ≡ Err status.DiskFault
+        → Rose (D.faults disk.old) (D.faults disk.new) }
+    ensures unfailed { (result ≡ Err status.DiskFault) ⊎
+        (D.faults disk.new ≡ D.faults disk.old) }
 {
     if size > LIMIT {
         return Err(Status::Damaged { at: LIMIT });
@@ -269,14 +277,17 @@ fn copy_sized<D: Disk>(alloc: Global, disk: &mut D, size: u64) -> Result<SureDis
 // The bytes of a disk that has so many.
 fn read_whole<D: Disk>(alloc: Global, disk: &mut D, size: u64) -> Result<Vec<u8>, Status>
     requires size { IfSome (D.told disk.old) (λ bytes. size ≡ length bytes) }
-    ensures bytes { IfOk result (λ bytes. IfSome (D.told disk.old) (λ told. told ≡ bytes.items)) }
+    ensures bytes { IfOk result (λ bytes. IfSome (D.told disk.old)
+        (λ told. told ≡ bytes.items)) }
     ensures refused { IfErr result (IsNoCopy (D.told disk.old)) }
     ensures told { D.told disk.new ≡ D.told disk.old }
     ensures any_moment { LeavesOnly (D.crashes disk.old) (D.crashes disk.new)
         (D.crashes disk.old).leaves }
     ensures later { D.faults disk.old ≤ D.faults disk.new }
-    ensures failed { result ≡ Err status.DiskFault → Rose (D.faults disk.old) (D.faults disk.new) }
-    ensures unfailed { (result ≡ Err status.DiskFault) ⊎ (D.faults disk.new ≡ D.faults disk.old) }
+    ensures failed { result ≡ Err status.DiskFault
+        → Rose (D.faults disk.old) (D.faults disk.new) }
+    ensures unfailed { (result ≡ Err status.DiskFault) ⊎
+        (D.faults disk.new ≡ D.faults disk.old) }
 {
     let mut bytes = match vec![in alloc; 0u8; size as usize] {
         Ok(bytes) => bytes,

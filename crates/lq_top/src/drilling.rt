@@ -471,7 +471,8 @@ fn play<S: Store, P: SqlText>(
     ensures plays { Plays cast.players.items cast.commands steps.now (S.state store.old)
         (S.state store.new) (S.crashes store.old) (S.crashes store.new) result }
     ensures later { S.faults store.old ≤ S.faults store.new }
-    ensures rose { result ≡ Err status.DiskFault → Rose (S.faults store.old) (S.faults store.new) }
+    ensures rose { result ≡ Err status.DiskFault
+        → Rose (S.faults store.old) (S.faults store.new) }
 {
     let Cast { players, commands } = cast;
     let mut players = players;

@@ -85,7 +85,8 @@ fn snapshot_in<D: Disk, P: SqlText + Drop, E: Executor + Drop, W: States<Engine 
 // What is told of it: the size of the state's entry, 0 where none was needed.
 fn told(alloc: Global, wrote: Result<u64, StoreFault>) -> Result<Done, Status>
     ensures text { IfOk wrote (λ size. IfOk result (TellsText (snapshot_text size))) }
-    ensures fault { IfErr wrote (λ fault. IfOk result (λ done. done.status ≡ fault_status fault)) }
+    ensures fault { IfErr wrote (λ fault. IfOk result
+        (λ done. done.status ≡ fault_status fault)) }
     ensures ends { IfOk result (λ done. ends done.status ≡ true) }
     ensures fails { IfErr result IsFault }
     ensures cause { IfErr wrote (λ fault. IfErr result (λ s. s ≡ fault_status fault)) }

@@ -128,7 +128,8 @@ fn back_text<P: SqlText + Drop + Copy>(
         (⟦<SureDisk as Disk>⟧.told there.disk) s)) }
     ensures back { IfOk result (λ text.
         TakenBack soaker.entry.dialect soaker.entry.seed.number soaker.entry.seed.sets
-        (stamp_of soaker.entry.who.now soaker.entry.reading) (⟦<SureDisk as Disk>⟧.told there.disk)
+        (stamp_of soaker.entry.who.now soaker.entry.reading)
+        (⟦<SureDisk as Disk>⟧.told there.disk)
         there.entries there.used sum text) }
 {
     let Measured {
@@ -198,7 +199,8 @@ fn disk_after<P: SqlText + Drop + Copy>(
     ensures did { IfOk result (λ after.
         Did soaker.entry.dialect soaker.entry.seed.number soaker.entry.seed.sets
         (stamp_of soaker.entry.who.now soaker.entry.reading) command.now
-        (⟦<SureDisk as Disk>⟧.told disk) (⟦<SureDisk as Disk>⟧.told after.disk) after.left.rows
+        (⟦<SureDisk as Disk>⟧.told disk) (⟦<SureDisk as Disk>⟧.told after.disk)
+        after.left.rows
         after.left.tables) }
 {
     let given = given_by(alloc, &sql, soaker)?;
@@ -380,9 +382,11 @@ struct Measured {
 
 fn measure(alloc: Global, dialect: Dialect, disk: SureDisk) -> Result<Measured, NoMemory>
     ensures told { IfOk result
-        (λ there. ⟦<SureDisk as Disk>⟧.told there.disk ≡ ⟦<SureDisk as Disk>⟧.told disk) }
+        (λ there. ⟦<SureDisk as Disk>⟧.told there.disk
+        ≡ ⟦<SureDisk as Disk>⟧.told disk) }
     ensures measured { IfOk result
-        (λ there. IsMeasured dialect (⟦<SureDisk as Disk>⟧.told disk) there.entries there.used) }
+        (λ there. IsMeasured dialect (⟦<SureDisk as Disk>⟧.told disk) there.entries
+        there.used) }
 {
     match Journal::load(alloc, disk, dialect, LIMIT) {
         Ok((journal, entries)) => Ok(Measured {
@@ -430,7 +434,8 @@ fn counted<K: Look>(alloc: Global, dialect: Dialect, sets: u64, look: &K) -> Res
         (rows : List Tracked)
         → rows_of (K.catalogue look.now) ≡ Some rows
         → left.rows ≡ length rows) }
-    ensures tables { IfOk result (λ left. left.tables ≡ tables_there (K.catalogue look.now) sets) }
+    ensures tables { IfOk result (λ left. left.tables
+        ≡ tables_there (K.catalogue look.now) sets) }
 {
     let Ok(rows) = read_rows(alloc, dialect, look) else {
         return Err(NoMemory);

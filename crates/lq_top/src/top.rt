@@ -88,8 +88,10 @@ pub fn run<F: Files, D: Disk, C: Clock, O: Sink, L: Sink>(
         → is_apart line.job ≡ false
         → IsDamagedAt line.options.dialect (D.told disk) at
         → SparesDamage line.job at result.status (D.told disk) (D.told result.disk) }
-    ensures disk { result.status ≡ status.DiskFault → Rose (D.faults disk) (D.faults result.disk) }
-    ensures write { result.status ≡ status.WriteFault → Rose (O.faults out.old) (O.faults out.new) }
+    ensures disk { result.status ≡ status.DiskFault
+        → Rose (D.faults disk) (D.faults result.disk) }
+    ensures write { result.status ≡ status.WriteFault
+        → Rose (O.faults out.old) (O.faults out.new) }
 
     // What a command is refused for, in the order of its checks, and what its calls leave; a refusal writes nothing.
     ensures runs { (asks : Asks (map (λ word. string_bytes word) words.now) (F.told files.old))
@@ -118,7 +120,8 @@ pub fn run<F: Files, D: Disk, C: Clock, O: Sink, L: Sink>(
         (O.told out.old) (O.told out.new) }
 
     // Where the output failed it got a front of that text.
-    ensures says_part { (asks : Asks (map (λ word. string_bytes word) words.now) (F.told files.old))
+    ensures says_part { (asks : Asks (map (λ word. string_bytes word) words.now)
+        (F.told files.old))
         → result.status ≡ status.WriteFault
         → SaidInPart asks (stamp_of who.now (C.last clock.new)) (D.told disk) (O.told out.old)
         (O.told out.new) }
@@ -239,7 +242,8 @@ pub fn run<F: Files, D: Disk, C: Clock, O: Sink, L: Sink>(
     // Without an end in the run there is no output. The log gets the lines of the status, behind those of warnings, of which there are none without an end in the run. Of a command that came to its end it is known which: those of an update's turns, the changelog's own first; at a full journal a front of those. A log that failed got a front of them all.
     ensures silent { IsSilent result.status → O.told out.new ≡ O.told out.old }
     ensures logged { (Rose (L.faults log.old) (L.faults log.new) → ⊥)
-        → IsLogged (asked_tag (line_of (map (λ word. string_bytes word) words.now))) result.status
+        → IsLogged (asked_tag (line_of (map (λ word. string_bytes word) words.now)))
+        result.status
         (L.told log.old) (L.told log.new) }
     ensures warns { (asks : Asks (map (λ word. string_bytes word) words.now) (F.told files.old))
         → (Rose (L.faults log.old) (L.faults log.new) → ⊥)

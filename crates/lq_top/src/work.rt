@@ -173,7 +173,8 @@ fn on_line<F: Files, D: Disk, C: Clock>(
         result.disk }
     ensures drilled { (runs : List ℕ)
         → line.job ≡ job.Drill runs
-        → DrilledBy D.told D.faults D.crashes (F.told files.old) line.options.dialect line.path runs
+        → DrilledBy D.told D.faults D.crashes (F.told files.old) line.options.dialect line.path
+        runs
         who.now (C.to_come clock.old) (C.to_come clock.new) disk result.done result.disk }
     ensures soaks { TellsSoakOf line.job line.options.dialect (stamp_of who.now (C.last clock.new))
         result.done }

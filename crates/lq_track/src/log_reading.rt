@@ -70,7 +70,8 @@ pub fn read_rows_of<K: Look>(
 
 fn rows_query(alloc: Global, id: &Text, author: &Text, file: &Text) -> Result<Query, NoMemory>
     ensures { IfOk result
-        (λ query. query ≡ rows_query (record { file = file.now; id = id.now; author = author.now })) }
+        (λ query. query ≡ rows_query (record
+        { file = file.now; id = id.now; author = author.now })) }
 {
     let (table, test) = both(log_table(alloc), row_test(alloc, id, author, file))?;
     Ok(Query {
@@ -98,7 +99,8 @@ fn answered_rows<K: Look>(
 
 /// Whether the table is there as it is made.
 fn is_log<K: Look>(alloc: Global, look: &K, table: &Name) -> Result<bool, NoMemory>
-    ensures { IfOk result (λ is. is ≡ passes is_log (table_of (K.catalogue look.now) table.now)) }
+    ensures { IfOk result (λ is. is
+        ≡ passes is_log (table_of (K.catalogue look.now) table.now)) }
 {
     let Some(columns) = look.columns(table) else {
         return Ok(false);

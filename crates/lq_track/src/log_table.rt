@@ -108,7 +108,8 @@ fn set_text(
 /// That a row is the changeset's.
 pub fn row_test(alloc: Global, id: &Text, author: &Text, file: &Text) -> Result<Test, NoMemory>
     ensures { IfOk result
-        (λ test. test ≡ row_test (record { file = file.now; id = id.now; author = author.now })) }
+        (λ test. test ≡ row_test (record
+        { file = file.now; id = id.now; author = author.now })) }
 {
     let id = log_holds(alloc, LogColumn::Id, id);
     let author = log_holds(alloc, LogColumn::Author, author);

@@ -80,7 +80,8 @@ fn deployment_of(alloc: Global, reading: u64) -> Result<Text, NoMemory>
 }
 
 fn push_last_digits(count: u8, number: u64, to: &mut String) -> Result<(), AllocError>
-    ensures { OnOk result (string_bytes to.new ≡ string_bytes to.old ++ last_digits count number) }
+    ensures { OnOk result (string_bytes to.new
+        ≡ string_bytes to.old ++ last_digits count number) }
 {
     if count == 0 {
         return Ok(());

@@ -72,7 +72,8 @@ pub fn required_columns<T: Given + Drop>(
     node: &Node,
     key: &str,
 ) -> Result<Items<T>, KindFault>
-    ensures read { Reads (at_required_items key.now (a_column T.of) (value_at key.now node.now)) result }
+    ensures read { Reads (at_required_items key.now (a_column T.of) (value_at key.now node.now))
+        result }
     ensures fits { IfOk result (λ found. are_some T.fits found ≡ true) }
 {
     let reader = Columns {

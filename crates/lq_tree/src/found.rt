@@ -58,7 +58,8 @@ pub fn placed_list(alloc: Global, key: &str, fault: KindFault) -> KindFault
 }
 
 fn missing_at(path: Result<Text, NoMemory>) -> KindFault
-    ensures { (meant : List ℕ) → IfOk path (λ p. p ≡ meant) → Tells (Missing meant) result }
+    ensures { (meant : List ℕ) → IfOk path (λ p. p ≡ meant)
+        → Tells (Missing meant) result }
 {
     match path {
         Ok(path) => KindFault::Missing(path),
@@ -67,7 +68,8 @@ fn missing_at(path: Result<Text, NoMemory>) -> KindFault
 }
 
 fn unknown_at(path: Result<Text, NoMemory>) -> KindFault
-    ensures { (meant : List ℕ) → IfOk path (λ p. p ≡ meant) → Tells (Unknown meant) result }
+    ensures { (meant : List ℕ) → IfOk path (λ p. p ≡ meant)
+        → Tells (Unknown meant) result }
 {
     match path {
         Ok(path) => KindFault::Unknown(path),
@@ -85,7 +87,8 @@ fn bad_at(path: Result<Text, NoMemory>) -> KindFault
 }
 
 fn not_for_at(path: Result<Text, NoMemory>, dialect: Dialect) -> KindFault
-    ensures { (meant : List ℕ) → IfOk path (λ p. p ≡ meant) → Tells (NotFor meant dialect) result }
+    ensures { (meant : List ℕ) → IfOk path (λ p. p ≡ meant)
+        → Tells (NotFor meant dialect) result }
 {
     match path {
         Ok(path) => KindFault::NotFor { path, dialect },

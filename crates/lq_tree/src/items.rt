@@ -65,7 +65,8 @@ pub fn required_items<R: Reader>(
     key: &str,
     reader: &R,
 ) -> Result<Items<R::Read>, KindFault>
-    ensures read { Reads (at_required_items key.now (R.of reader.now) (value_at key.now node.now)) result }
+    ensures read { Reads (at_required_items key.now (R.of reader.now) (value_at key.now node.now))
+        result }
     ensures fits { IfOk result (λ found. are_some (R.fits reader.now) found ≡ true) }
 {
     let Some(value) = node.value_at(key) else {
@@ -84,7 +85,8 @@ pub fn optional_items<R: Reader>(
     key: &str,
     reader: &R,
 ) -> Result<Option<Items<R::Read>>, KindFault>
-    ensures read { Reads (at_optional_items key.now (R.of reader.now) (value_at key.now node.now)) result }
+    ensures read { Reads (at_optional_items key.now (R.of reader.now) (value_at key.now node.now))
+        result }
     ensures fits { IfOk result (λ found. if_there (list_all (R.fits reader.now)) found ≡ true) }
 {
     let Some(value) = node.value_at(key) else {

@@ -96,8 +96,11 @@ impl Node {
     /// The first key of a map, in the map's order, that is none of the known ones. In a tree that was
     /// read it is the least such key by its bytes.
     pub fn unknown_key(&self, known: &[&str]) -> Option<&Text>
-        ensures first { option_copied result ≡ unknown_key (map (λ k. k.now) known.now) self.now }
-        ensures least { IsTree self.now → IfSome (option_copied result) (IsLeastUnknown (map (λ k. k.now) known.now) self.now) }
+        ensures first { option_copied result
+            ≡ unknown_key (map (λ k. k.now) known.now) self.now }
+        ensures least { IsTree self.now
+            → IfSome (option_copied result)
+            (IsLeastUnknown (map (λ k. k.now) known.now) self.now) }
     {
         match self {
             Node::Map(entries) => unknown_in(entries.as_slice(), known),

@@ -51,7 +51,8 @@ pub fn required_by<R: Reader>(
     key: &str,
     reader: &R,
 ) -> Result<R::Read, KindFault>
-    ensures read { Reads (at_required key.now (R.of reader.now) (value_at key.now node.now)) result }
+    ensures read { Reads (at_required key.now (R.of reader.now) (value_at key.now node.now))
+        result }
     ensures fits { IfOk result (λ given. R.fits reader.now given ≡ true) }
 {
     match node.value_at(key) {
@@ -67,7 +68,8 @@ pub fn optional_by<R: Reader>(
     key: &str,
     reader: &R,
 ) -> Result<Option<R::Read>, KindFault>
-    ensures read { Reads (at_optional key.now (R.of reader.now) (value_at key.now node.now)) result }
+    ensures read { Reads (at_optional key.now (R.of reader.now) (value_at key.now node.now))
+        result }
     ensures fits { IfOk result (λ given. if_there (R.fits reader.now) given ≡ true) }
 {
     match node.value_at(key) {

@@ -80,7 +80,8 @@ fn nodes_of(alloc: Global, items: &Vec<Value>) -> Result<Items<Node>, TreeFault>
 fn entries_of(alloc: Global, found: &Map<String, Value>) -> Result<Items<(Text, Node)>, TreeFault>
     ensures ok { IfOk result (λ es. entries_of (members_view found.now.entries) ≡ Some es) }
     ensures err { IfErr result (λ e. (e ≡ TreeFault.OutOfMemory)
-        ⊎ ((e ≡ TreeFault.FloatNumber) × (entries_of (members_view found.now.entries) ≡ None))) }
+        ⊎ ((e ≡ TreeFault.FloatNumber)
+        × (entries_of (members_view found.now.entries) ≡ None))) }
 {
     let mut entries = with_room(alloc, found.len())?;
     for (key, value) in found.iter() {

@@ -40,7 +40,8 @@ pub fn undo<S: Store, P: SqlText>(
     ensures did { Undid S.state S.crashes options.now changelog.now last.now store.old result
         store.new }
     ensures later { S.faults store.old ≤ S.faults store.new }
-    ensures disk { result ≡ Err status.DiskFault → Rose (S.faults store.old) (S.faults store.new) }
+    ensures disk { result ≡ Err status.DiskFault
+        → Rose (S.faults store.old) (S.faults store.new) }
 {
     match undo_unrecorded(alloc, options, changelog, last, store, sql) {
         Ok(done) => undone(alloc, &done),

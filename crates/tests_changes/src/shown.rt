@@ -100,7 +100,8 @@ fn append_undo<P: SqlText>(
     undo: &Undo,
     to: &mut Text,
 ) -> Result<(), NoMemory>
-    requires { (undoing : List Statement) → undoing_of undo.now ≡ Some undoing → list_all (is_statement P.dialect) undoing ≡ true }
+    requires { (undoing : List Statement) → undoing_of undo.now ≡ Some undoing
+        → list_all (is_statement P.dialect) undoing ≡ true }
 {
     match undo {
         Undo::Generated(statements) => {

@@ -353,7 +353,8 @@ fn of_length(alloc: Global, len: usize) -> Result<EncodedEntry, Fail> {
 
 // A journal with one entry.
 fn filled(alloc: Global, entry: &EncodedEntry) -> Option<Journal<SureDisk>>
-    ensures { IfSome result (λ journal. IsReady (⟦<SureDisk as Disk>⟧.told (disk_of journal)) journal) }
+    ensures { IfSome result (λ journal. IsReady (⟦<SureDisk as Disk>⟧.told (disk_of journal))
+        journal) }
 {
     let disk = SureDisk::new(Vec::new(alloc));
     let Ok((mut journal, _)) = Journal::load(alloc, disk, Dialect::Mysql, 8192) else {

@@ -48,7 +48,8 @@ impl OneTable {
     }
 
     fn whole(&self, alloc: Global) -> Result<Answered, NoMemory>
-        ensures { IfOk result (λ answered. answered ≡ record { columns = length self.now.columns; rows = self.now.rows }) }
+        ensures { IfOk result (λ answered. answered
+            ≡ record { columns = length self.now.columns; rows = self.now.rows }) }
     {
         Ok(Answered {
             columns: self.columns.len() as u64,
