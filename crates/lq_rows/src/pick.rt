@@ -50,11 +50,11 @@ pub fn picked(
 ) -> Result<Row, NoMemory>
     ensures { IfOk result (λ values. values ≡ picked columns.now names.now row.now) }
 {
-    let mut values = Items::new(alloc);
+    let mut values = Vec::with_capacity(alloc, names.len())?;
     for name in names {
         values.push(value_at(alloc, columns, row, name)?)?;
     }
-    Ok(values)
+    Ok(Items::from_vec(values))
 }
 
 pub fn is_null(value: &Value) -> bool

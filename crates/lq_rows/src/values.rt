@@ -109,11 +109,16 @@ fn compare(a: &[Value], b: &[Value]) -> Ordering
 fn compare_one(a: &Value, b: &Value) -> Ordering
     ensures { result ≡ value_cmp a.now b.now }
 {
-    rank(a)
-        .cmp(&rank(b))
-        .then(whole(a).cmp(&whole(b)))
-        .then(scale(a).cmp(&scale(b)))
-        .then(text(a).cmp(text(b)))
+    match (a, b) {
+        // Nearly all keys are whole numbers or texts.
+        (Value::Int(a), Value::Int(b)) => a.cmp(b),
+        (Value::Text(a), Value::Text(b)) => a.as_str().as_bytes().cmp(b.as_str().as_bytes()),
+        _ => rank(a)
+            .cmp(&rank(b))
+            .then(whole(a).cmp(&whole(b)))
+            .then(scale(a).cmp(&scale(b)))
+            .then(text(a).cmp(text(b))),
+    }
 }
 
 fn rank(value: &Value) -> u8
