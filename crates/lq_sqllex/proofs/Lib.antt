@@ -5,6 +5,7 @@ pub mod LexemeSteps
 pub mod NestedComment
 pub mod PieceOrder
 pub mod PieceSteps
+pub mod Plain
 pub mod QuotedText
 pub mod Search
 pub mod TriviaSteps

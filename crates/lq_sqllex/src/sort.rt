@@ -30,14 +30,23 @@ fn plain_sort(dialect: Dialect, first: u8, second: u8) -> LexemeSort
 }
 
 /// The sort of the lexeme at the front of a text, by its first bytes. Of an empty text it is a mark.
+#[tactic(auto, using(crate::proofs::Plain::no_comment_above, crate::proofs::Plain::no_comment_below))]
 pub fn sort_at(dialect: Dialect, text: &[u8]) -> LexemeSort
     ensures { result ≡ sort_at dialect text.now }
 {
+    let first = byte_at(text, 0);
+    // Letters, digits and blanks begin no comment.
+    if first > b'/' {
+        return plain_sort(dialect, first, byte_at(text, 1));
+    }
+    if first < b'#' {
+        return plain_sort(dialect, first, byte_at(text, 1));
+    }
     if begins_line_comment(dialect, text) {
         LexemeSort::LineComment
     } else if begins_block_comment(dialect, text) {
         LexemeSort::BlockComment
     } else {
-        plain_sort(dialect, byte_at(text, 0), byte_at(text, 1))
+        plain_sort(dialect, first, byte_at(text, 1))
     }
 }
