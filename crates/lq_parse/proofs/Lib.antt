@@ -6,6 +6,7 @@ pub mod Chains
 pub mod Escapes
 pub mod Found
 pub mod Fronts
+mod InLowerCase
 pub mod Kept
 pub mod Levels
 pub mod Lists
@@ -16,6 +17,7 @@ pub mod Meaning
 pub mod NumberMakes
 pub mod Numbers
 pub mod Objects
+mod PlainInside
 pub mod Precedence
 pub mod QueryAgain
 pub mod QuotedNames

@@ -6,8 +6,8 @@ ghost use Rattle.lq_model.specs.SqlWord as spec;
 ghost use Rattle.lq_parse.specs.Kinds.{AreTexts, AreEven, has_text, words_kept};
 
 use crate::cursor::WordList;
-use crate::quoted::unquoted;
-use crate::spelling::{folded, has_text, kind_of_word, may_be_name};
+use crate::quoted::{plain_inside, unquoted};
+use crate::spelling::{folded, has_text, is_folded, kind_of_word, may_be_name};
 use lq_base::{Dialect, Items, LexemeSort, NoMemory, Text};
 use lq_model::{ParseFault, Word, WordKind};
 use lq_sqllex::{Lexeme, lexeme_at};
@@ -57,12 +57,30 @@ fn unquoted_word(
     requires { AreTexts (spec.unquoted_word kind (spec.folded dialect bytes.now) ∷ []) }
     ensures { IfOk result (λ it. it ≡ spec.unquoted_word kind (spec.folded dialect bytes.now)) }
 {
-    if may_be_name(kind) {
-        let name = folded(alloc, dialect, bytes)?;
-        with_text(alloc, kind, name.as_slice())
-    } else {
-        bare(alloc, kind)
+    if !may_be_name(kind) {
+        return bare(alloc, kind);
     }
+    if is_folded(dialect, bytes) {
+        return with_text(alloc, kind, bytes);
+    }
+    let name = folded(alloc, dialect, bytes)?;
+    with_text(alloc, kind, name.as_slice())
+}
+
+fn quoted_word(
+    alloc: Global,
+    kind: WordKind,
+    escaping: bool,
+    bytes: &[u8],
+) -> Result<Word, NoMemory>
+    requires { IsUtf8 (spec.unquoted escaping bytes.now) }
+    ensures { IfOk result (λ it. it ≡ spec.with_text kind (spec.unquoted escaping bytes.now)) }
+{
+    if let Some(text) = plain_inside(escaping, bytes) {
+        return with_text(alloc, kind, text);
+    }
+    let text = unquoted(alloc, escaping, bytes)?;
+    with_text(alloc, kind, text.as_slice())
 }
 
 // Appends a word, as its kind and its text, if it may have one.
@@ -98,14 +116,8 @@ fn push_word(
 {
     let word = match sort {
         LexemeSort::Blank | LexemeSort::LineComment | LexemeSort::BlockComment => return Ok(()),
-        LexemeSort::Name => {
-            let name = unquoted(alloc, false, bytes)?;
-            with_text(alloc, WordKind::Quoted, name.as_slice())?
-        }
-        LexemeSort::Text => {
-            let text = unquoted(alloc, escapes(dialect), bytes)?;
-            with_text(alloc, WordKind::Text, text.as_slice())?
-        }
+        LexemeSort::Name => quoted_word(alloc, WordKind::Quoted, false, bytes)?,
+        LexemeSort::Text => quoted_word(alloc, WordKind::Text, escapes(dialect), bytes)?,
         LexemeSort::Number => with_text(alloc, WordKind::Number, bytes)?,
         LexemeSort::Word => {
             unquoted_word(alloc, dialect, kind_of_word(WordKind::Plain, bytes), bytes)?
@@ -120,8 +132,9 @@ pub fn words(alloc: Global, dialect: Dialect, text: &[u8]) -> Result<WordList, P
     requires { IsUtf8 text.now }
     ensures { Gives (spec.words dialect text.now) result }
 {
-    let mut kinds = Items::new(alloc);
-    let mut texts = Items::new(alloc);
+    // Room for most statements, so that it need not grow.
+    let mut kinds = Items::from_vec(Vec::with_capacity(alloc, text.len().min(64))?);
+    let mut texts = Items::from_vec(Vec::with_capacity(alloc, text.len().min(16))?);
     let mut rest = text;
     while !rest.is_empty() {
         let Some(lexeme) = lexeme_at(dialect, rest) else {

@@ -1,6 +1,8 @@
-ghost use Rattle.std.specs.Prelude.{◌≡◌, ◌++◌, IfOk, OnOk};
+ghost use Rattle.std.specs.List.{prefix_len};
+ghost use Rattle.std.specs.Prelude.{◌≡◌, ◌++◌, ◌≤◌, IfOk, IfSome, OnOk, length};
 ghost use Rattle.lq_base.specs.Sql.{is_pair};
 ghost use Rattle.lq_model.specs.SqlWord as spec;
+ghost use Rattle.lq_parse.specs.Plain.{is_plain};
 
 use lq_base::Items;
 use std::alloc::{AllocError, Global};
@@ -54,6 +56,38 @@ fn inside(alloc: Global, escaping: bool, quote: u8, text: &[u8]) -> Result<Items
         }
     }
     Ok(out)
+}
+
+fn is_plain(escaping: bool, quote: u8, byte: u8) -> bool
+    ensures { result ≡ is_plain escaping quote byte }
+{
+    byte != quote && !(escaping && byte == b'\\')
+}
+
+fn plain_front(escaping: bool, quote: u8, text: &[u8]) -> usize
+    ensures value { result ≡ prefix_len (is_plain escaping quote) text.now }
+    ensures bound { result ≤ length text.now }
+{
+    for (count, byte) in text.iter().enumerate() {
+        if !is_plain(escaping, quote, *byte) {
+            return count;
+        }
+    }
+    text.len()
+}
+
+/// What stands in the quotes, where each byte of it stands for itself.
+pub fn plain_inside(escaping: bool, bytes: &[u8]) -> Option<&[u8]>
+    ensures { IfSome result (λ text. text.now ≡ spec.unquoted escaping bytes.now) }
+{
+    let [quote, rest @ ..] = bytes else {
+        return None;
+    };
+    let count = plain_front(escaping, *quote, rest);
+    if rest.len() - count != 1 {
+        return None;
+    }
+    Some(&rest[..count])
 }
 
 /// The characters of a string or of a name in quotes, as bytes, of which the first is the opening

@@ -1,4 +1,5 @@
-ghost use Rattle.std.specs.Prelude.{◌≡◌, map, IfOk};
+ghost use Rattle.std.specs.List.{list_all};
+ghost use Rattle.std.specs.Prelude.{◌≡◌, ◌==◌, map, IfOk, true};
 ghost use Rattle.std.specs.Char.{to_ascii_lowercase};
 ghost use Rattle.std.specs.Str.{str_eq_ignore_ascii_case};
 ghost use Rattle.lq_model.specs.SqlWord as spec;
@@ -100,6 +101,23 @@ fn lower(alloc: Global, bytes: &[u8]) -> Result<Items<u8>, AllocError>
         out.push(byte.to_ascii_lowercase())?;
     }
     Ok(out)
+}
+
+fn is_lower(bytes: &[u8]) -> bool
+    ensures { result ≡ list_all (λ byte. to_ascii_lowercase byte == byte) bytes.now }
+{
+    bytes.iter().all(|byte| byte.to_ascii_lowercase() == *byte)
+}
+
+/// Whether an unquoted word is the name that it stands for.
+#[tactic(auto, using(crate::proofs::InLowerCase::lower_is))]
+pub fn is_folded(dialect: Dialect, bytes: &[u8]) -> bool
+    ensures { result ≡ true → spec.folded dialect bytes.now ≡ bytes.now }
+{
+    match dialect {
+        Dialect::Postgresql => is_lower(bytes),
+        Dialect::Mysql => true,
+    }
 }
 
 /// The name that an unquoted word stands for: in lower case in postgresql, as it is in mysql.
