@@ -8,8 +8,8 @@ ghost use Rattle.lq_changelog.specs.Gathers.{at_home, away, is_idle, is_there, p
 
 use crate::texts::read_set;
 use lq_base::{Dialect, Items, KindFault, NoMemory};
-use lq_kinds::{AnyChange, ChangeSet, SetFault, here_at, sums_of};
-use lq_model::{Change, SqlText};
+use lq_kinds::{AnyChange, ChangeSet, SetFault, here_at, statement_count, sums_of};
+use lq_model::SqlText;
 use lq_tree::{Node, bad};
 use std::alloc::Global;
 
@@ -38,9 +38,8 @@ fn has_no_statement(alloc: Global, change: &AnyChange, dialect: Dialect) -> Resu
     requires { is_for dialect change.now ≡ true }
     ensures { IfOk result (λ so. so ≡ (length (gives dialect change.now) == 0)) }
 {
-    let mut statements = Items::new(alloc);
-    change.statements(alloc, dialect, &mut statements)?;
-    Ok(statements.len() == 0)
+    let count = statement_count(alloc, dialect, change)?;
+    Ok(count == 0)
 }
 
 /// Whether the one change of a body has no statement.

@@ -1,6 +1,7 @@
-ghost use Rattle.std.specs.Prelude.{◌≡◌, IfOk, true};
+ghost use Rattle.std.specs.Option.{unwrap_or};
+ghost use Rattle.std.specs.Prelude.{◌≡◌, IfOk, [], length, true};
 ghost use Rattle.lq_tree.specs.Look.{Reads};
-ghost use Rattle.lq_data.specs.Script.{is_delimiter, script};
+ghost use Rattle.lq_data.specs.Script.{is_delimiter, script, statements_in};
 ghost use Rattle.lq_data.specs.Sql.{a_sql, delimiter_keys, is_for, split_keys, with_statements};
 
 use crate::copied::push_copies;
@@ -119,6 +120,13 @@ impl Sql {
         ensures { result.now ≡ self.now.end_delimiter }
     {
         self.end_delimiter.as_str()
+    }
+
+    /// How many statements the text spells.
+    pub fn count(&self) -> usize
+        ensures { result ≡ length (unwrap_or (statements_in self.now) []) }
+    {
+        self.statements.len()
     }
 
     fn of<P: SqlText>(

@@ -1,11 +1,10 @@
 ghost use Rattle.std.specs.List.{list_all};
-ghost use Rattle.std.specs.Prelude.{◌≡◌, ◌++◌, IfOk, OnOk, length, reverse, true};
-ghost use Rattle.lq_kinds.specs.AnyChange.{gives, is_for};
+ghost use Rattle.std.specs.Prelude.{◌≡◌, ◌++◌, IfOk, OnOk, reverse, true};
+ghost use Rattle.lq_kinds.specs.AnyChange.{is_for};
 ghost use Rattle.lq_sets.specs.Counting.{after_first, begins_at, begins_from, begins_none, first_of};
 
 use lq_base::{Dialect, Items, NoMemory};
-use lq_kinds::AnyChange;
-use lq_model::Change;
+use lq_kinds::{AnyChange, statement_count};
 use std::alloc::Global;
 
 /// Of each statement that the changes give, the place of the change that begins with it, from 0,
@@ -26,15 +25,6 @@ pub fn beginnings(
         rest = front;
     }
     Ok(beginnings)
-}
-
-fn statement_count(alloc: Global, dialect: Dialect, change: &AnyChange) -> Result<usize, NoMemory>
-    requires read { is_for dialect change.now ≡ true }
-    ensures { IfOk result (λ count. count ≡ length (gives dialect change.now)) }
-{
-    let mut statements = Items::new(alloc);
-    change.statements(alloc, dialect, &mut statements)?;
-    Ok(statements.len())
 }
 
 /// A change that gives so many statements.

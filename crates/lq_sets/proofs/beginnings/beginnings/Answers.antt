@@ -9,7 +9,7 @@ loop-change-init c = (all_to_come c.args.dialect c.args.changes.now _ c.new-begi
 pub statement_count-requires : goal.statement_count-requires
 statement_count-requires c =
     let is : c.loop-change.rest.now ≡ c.in-Some.front.now ++ c.in-Some.change.now ∷ [] = search rules in
-    record { read = last_read c.args.dialect c.loop-change.rest.now c.in-Some.front.now c.in-Some.change.now is c.loop-change.invariant.1 }
+    last_read c.args.dialect c.loop-change.rest.now c.in-Some.front.now c.in-Some.change.now is c.loop-change.invariant.1
 
 pub loop-change-preserved : goal.loop-change-preserved
 loop-change-preserved c =
