@@ -1,13 +1,14 @@
 -- Fingerprints of rows that come and go, and the places that they give.
-use Rattle.std.proofs.Common.{Bool, List, None, Option, Some, [], ap, arith, cond, length, map, nat_eq, refl, slice_get, slice_index_or, slice_set, subst, suc, sym, true, false, zero, ◌+◌, ◌<◌, ◌∙◌, ◌∷◌, ◌≡◌, ◌≤◌, ℕ}
+use Rattle.std.proofs.Common.{Bool, List, Option, Some, [], ap, arith, cond, length, map, nat_eq, refl, slice_get, slice_index_or, slice_set, subst, suc, sym, true, false, zero, ◌+◌, ◌<◌, ◌∙◌, ◌∷◌, ◌≡◌, ◌≤◌, ℕ}
 use Rattle.std.proofs.lemmas.Bool.Decides.{nat_tests}
 use Rattle.std.proofs.lemmas.List.{length-map}
 use Rattle.std.proofs.lemmas.Option.{none-some, same_Some, slice_get-map}
-use Rattle.std.specs.List.{All, AllAdjacentBelow, Contains, remove}
+use Rattle.std.specs.List.{All, AllAdjacentBelow, Contains, cons_option, filter, filter_map, remove}
 use Rattle.std.specs.Option.{option_map}
 use Rattle.lq_base.specs.declared.value.Value.{Value}
 use Rattle.lq_base.specs.declared.value.Value.TheVariants as value
-use Rattle.lq_rows.specs.Stored.{ArePlaces, ArePrints, fingerprint, places_from, text_print, value_print}
+use Rattle.lq_model.proofs.Lists.{true_false, whether}
+use Rattle.lq_rows.specs.Stored.{ArePlaces, ArePrints, IsFront, fingerprint, places_from, text_print, value_print}
 
 module _ {A B : Type 0} (f : A → B) where
   map_removed : (xs : List A) (at : ℕ) → map f (remove xs at) ≡ remove (map f xs) at
@@ -86,3 +87,36 @@ placed text rows print prints places of known found =
           subst (Contains (places_from 0 (text_print text) (map fingerprint rows))) here
           (contained 0 (text_print text) (map fingerprint rows) at (slice_get-map fingerprint rows at ∙ ap (option_map fingerprint) there ∙ ap Some (print_of row text begins)));
     }
+
+-- the rows at the places of a print are those that have it
+module _ {X : Type 0} (f : ℕ → Option X) where
+  found_if : (is : Bool) (n : ℕ) (x : X) (ys : List ℕ) (zs : List X) → f n ≡ Some x → filter_map f ys ≡ zs → filter_map f (cond is (n ∷ ys) ys) ≡ cond is (x ∷ zs) zs
+  found_if true n x ys zs here more = ap (λ o. cons_option o (filter_map f ys)) here ∙ ap (λ xs. x ∷ xs) more
+  found_if false n x ys zs here more = more
+
+found_rows : (f : ℕ → Option (List Value)) (n print : ℕ) (rows : List (List Value)) → ((i : ℕ) → f (n + i) ≡ slice_get rows i) → filter_map f (places_from n print (map fingerprint rows)) ≡ filter (λ row. nat_eq (fingerprint row) print) rows
+found_rows f n print [] same = refl
+found_rows f n print (row ∷ rows) same =
+    let here : n + 0 ≡ n = omega arith in
+    found_if f (nat_eq (fingerprint row) print) n row (places_from (n + 1) print (map fingerprint rows)) (filter (λ row. nat_eq (fingerprint row) print) rows) (ap f (sym here) ∙ same 0)
+    (found_rows f (n + 1) print rows (λ i. let there : n + 1 + i ≡ n + suc i = omega arith in ap f there ∙ same (suc i)))
+
+-- of the rows that pass another test too, none is lost
+module _ {X : Type 0} (p q : X → Bool) (also : (x : X) → p x ≡ true → q x ≡ true) where
+  passed_if : (b : Bool) (x : X) (ys zs : List X) → q x ≡ b → filter p ys ≡ zs → filter p (cond b (x ∷ ys) ys) ≡ cond (p x) (x ∷ zs) zs
+  passed_if true x ys zs is more = ap (λ (xs : List X). cond (p x) (x ∷ xs) xs) more
+  passed_if false x ys zs not more = more ∙ sym (ap (λ (b : Bool). cond b (x ∷ zs) zs) (whether (p x) (λ is. true_false (also x is) not) (λ no. no)))
+
+  passed_twice : (xs : List X) → filter p (filter q xs) ≡ filter p xs
+  passed_twice [] = refl
+  passed_twice (x ∷ xs) = passed_if (q x) x (filter q xs) (filter p xs) refl (passed_twice xs)
+
+-- the rows at the places of a text's print are the front for it
+pub fronted : (text : List ℕ) (rows found : List (List Value)) (print : ℕ) (prints places : List ℕ) → print ≡ text_print text → prints ≡ map fingerprint rows → places ≡ places_from 0 print prints → found ≡ filter_map (slice_get rows) places → IsFront text rows found
+fronted text rows found print prints places of known at is = record {
+  same = λ p begins.
+      let q : List Value → Bool = λ row. nat_eq (fingerprint row) (text_print text) in
+      let all : found ≡ filter q rows = is ∙ ap (filter_map (slice_get rows)) (at ∙ ap (λ n. places_from 0 n prints) of ∙ ap (places_from 0 (text_print text)) known)
+      ∙ found_rows (slice_get rows) 0 (text_print text) rows (λ i. let here : 0 + i ≡ i = omega arith in ap (slice_get rows) here) in
+      ap (filter p) all ∙ passed_twice p q (λ row takes. ap (λ n. nat_eq n (text_print text)) (print_of row text (begins row takes)) ∙ nat_itself (text_print text)) rows;
+}

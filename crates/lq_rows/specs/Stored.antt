@@ -2,9 +2,9 @@
 use Rattle.std.specs.BTreeSet.{BTreeSet, contains}
 use Rattle.std.specs.Cmp.{IsTotalOrder, int_cmp_total, nat_cmp_total, on_total, then_total}
 use Rattle.std.specs.Cmp.Lexicographic.{lists_total, slice_cmp}
-use Rattle.std.specs.List.{All, AllAdjacentBelow, Contains, fold, list_any, remove}
+use Rattle.std.specs.List.{All, AllAdjacentBelow, Contains, filter, fold, list_any, remove}
 use Rattle.std.specs.Ordering.{int_cmp, nat_cmp, on, then_cmp}
-use Rattle.std.specs.Prelude.{Bool, Err, List, None, Ok, Option, Result, Some, [], cond, length, map, nat_eq, not, pos, slice_get, slice_set, suc, zero, ℕ, ℤ, ⊤, ◌%◌, ◌&&◌, ◌*◌, ◌++◌, ◌+◌, ◌<◌, ◌∷◌, ◌≡◌, ◌≤◌}
+use Rattle.std.specs.Prelude.{Bool, Err, List, None, Ok, Option, Result, Some, [], cond, length, map, nat_eq, not, pos, slice_get, slice_set, suc, true, zero, ℕ, ℤ, ⊤, ◌%◌, ◌&&◌, ◌*◌, ◌++◌, ◌+◌, ◌<◌, ◌∷◌, ◌≡◌, ◌≤◌}
 use Rattle.std.specs.declared.cmp.Ordering.{Ordering}
 use Rattle.lq_base.specs.declared.name.Name.{Name}
 use Rattle.lq_base.specs.declared.reason.Reason.{Reason}
@@ -113,6 +113,10 @@ pub record ArePlaces (text : List ℕ) (rows : List (List Value)) (places : List
   pub rising : AllAdjacentBelow (λ a b. a < b) places (length places)
   pub within : All (λ at. at < length rows) places
   pub each : (at : ℕ) (row : List Value) → slice_get rows at ≡ Some row → slice_get row 0 ≡ Some (value.Text text) → Contains places at
+
+-- the front of the rows for a text: a test that takes only rows that begin with it takes of these, in order, what it takes of all
+pub record IsFront (text : List ℕ) (rows front : List (List Value)) : Type 0 where
+  pub same : (p : List Value → Bool) → ((row : List Value) → p row ≡ true → slice_get row 0 ≡ Some (value.Text text)) → filter p front ≡ filter p rows
 
 -- A table as it is kept: with the rows before each change since the last `forget`, the newest first.
 

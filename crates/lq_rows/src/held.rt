@@ -1,10 +1,10 @@
-ghost use Rattle.std.specs.Prelude.{◌≡◌, ◌≤◌, ◌++◌, ◌∷◌, ◌<◌, [], length, IfOk, OnOk, OnErr, slice_get, slice_set};
+ghost use Rattle.std.specs.Prelude.{◌≡◌, ◌≤◌, ◌++◌, ◌∷◌, ◌<◌, [], length, map, IfOk, IfSome, OnOk, OnErr, slice_get, slice_set};
 ghost use Rattle.std.specs.Option.{option_copied};
 ghost use Rattle.std.specs.List.{list_any, remove};
 ghost use Rattle.lq_model.specs.Catalogue.{has_null_in, by_name, is_null};
 ghost use Rattle.lq_chain.specs.History.{changed, marked, undone_to, forgotten};
 ghost use Rattle.lq_chain.specs.Marks.{kept_rows, replaced};
-ghost use Rattle.lq_rows.specs.Stored.{ArePlaces, has_values, reshaped, rows_of, shape_of, stored, table_as, with_rows};
+ghost use Rattle.lq_rows.specs.Stored.{ArePlaces, IsFront, has_values, reshaped, rows_of, shape_of, stored, table_as, with_rows};
 ghost use Rattle.lq_model.specs.Plan.{is_twin};
 
 use crate::pick::{has_column, is_null_at};
@@ -81,7 +81,7 @@ impl Held {
                 next: 1,
             },
             seen: Vec::new(alloc),
-            prints: None,
+            prints: Some(Items::new(alloc)),
         };
         Ok(Held {
             body: Box::new(alloc, body)?,
@@ -200,6 +200,15 @@ impl Held {
         print::places(alloc, &mut body.prints, &body.numbered.rows, first)
     }
 
+    /// The front of the rows for the text, where it is known and they are few.
+    pub fn front(&self, alloc: Global, first: &str) -> Result<Option<Vec<&Row>>, NoMemory>
+        ensures { IfOk result (λ front. IfSome front (λ rows.
+            IsFront first.now self.now.now.rows (map (λ row. row.now) rows.items))) }
+    {
+        let body = &*self.body;
+        print::front(alloc, &body.prints, &body.numbered.rows, first)
+    }
+
     /// Whether a row is equal to this one in a key, a unique constraint or a unique index.
     pub fn is_twin(&mut self, alloc: Global, row: &[Value]) -> Result<bool, NoMemory>
         ensures found { IfOk result (λ found. found ≡ is_twin self.old.now row.now) }
@@ -273,8 +282,9 @@ impl Held {
     {
         let body = &mut *self.body;
         body.seen.clear();
-        body.prints = None;
-        body.numbered.rows.replace_some(alloc, by)
+        body.numbered.rows.replace_some(alloc, by)?;
+        print::renew(alloc, &mut body.prints, &body.numbered.rows);
+        Ok(())
     }
 
     /// Keeps the rows whose mark stands and takes the others out, or changes nothing.
@@ -288,8 +298,9 @@ impl Held {
     {
         let body = &mut *self.body;
         body.seen.clear();
-        body.prints = None;
-        body.numbered.rows.keep(alloc, marks)
+        body.numbered.rows.keep(alloc, marks)?;
+        print::renew(alloc, &mut body.prints, &body.numbered.rows);
+        Ok(())
     }
 
     /// Takes the row at the place out, or changes nothing.

@@ -1,13 +1,16 @@
 //! A small number of each row, by which the rows that begin with a text are looked for.
-ghost use Rattle.std.specs.List.{remove};
-ghost use Rattle.std.specs.Prelude.{◌≡◌, ◌++◌, ◌<◌, ◌∷◌, List, IfOk, [], length, map, slice_set};
+ghost use Rattle.std.specs.List.{filter_map, remove};
+ghost use Rattle.std.specs.Prelude.{◌≡◌, ◌++◌, ◌<◌, ◌∷◌, List, IfOk, IfSome, [], length, map, slice_get, slice_set};
 ghost use Rattle.lq_base.specs.declared.value.Value.{Value as Held};
-ghost use Rattle.lq_rows.specs.Stored.{ArePlaces, ArePrints, fingerprint, places_from, text_print, value_print, with_digit};
+ghost use Rattle.lq_rows.specs.Stored.{ArePlaces, ArePrints, IsFront, fingerprint, places_from, text_print, value_print, with_digit};
 
 use crate::held::Row;
 use lq_base::{Items, NoMemory, Value};
 use lq_chain::Chain;
 use std::alloc::Global;
+
+/// So many rows are found one by one: the way to each begins at the nearest end.
+const FEW: usize = 32;
 
 fn with_digit(number: u32, byte: u8) -> u32
     ensures { result ≡ with_digit number byte }
@@ -52,6 +55,16 @@ fn print_all(alloc: Global, rows: &Chain<Row>) -> Result<Items<u32>, NoMemory>
         prints.push(fingerprint(row.as_slice()))?;
     }
     Ok(prints)
+}
+
+/// Other rows came. Where memory is wanting, nothing is known of them.
+pub fn renew(alloc: Global, prints: &mut Option<Items<u32>>, rows: &Chain<Row>)
+    ensures { ArePrints rows.now.now prints.new }
+{
+    match print_all(alloc, rows) {
+        Ok(known) => *prints = Some(known),
+        Err(NoMemory) => *prints = None,
+    }
 }
 
 /// A row came to the end.
@@ -130,4 +143,44 @@ pub fn places(
     let places = places_of(alloc, known.as_slice(), print)?;
     *prints = Some(known);
     Ok(places)
+}
+
+/// The rows at the places.
+fn rows_at<'a>(
+    alloc: Global,
+    rows: &'a Chain<Row>,
+    places: &[usize],
+) -> Result<Vec<&'a Row>, NoMemory>
+    ensures { IfOk result (λ found.
+        map (λ row. row.now) found.items ≡ filter_map (slice_get rows.now.now) places.now) }
+{
+    let mut found = Vec::new(alloc);
+    for at in places {
+        if let Some(row) = rows.get(*at) {
+            found.push(row)?;
+        }
+    }
+    Ok(found)
+}
+
+/// The rows that are the front for a text, where they are known and few.
+pub fn front<'a>(
+    alloc: Global,
+    prints: &Option<Items<u32>>,
+    rows: &'a Chain<Row>,
+    text: &str,
+) -> Result<Option<Vec<&'a Row>>, NoMemory>
+    requires { ArePrints rows.now.now prints.now }
+    ensures { IfOk result (λ front. IfSome front (λ some.
+        IsFront text.now rows.now.now (map (λ row. row.now) some.items))) }
+{
+    let Some(known) = prints else {
+        return Ok(None);
+    };
+    let places = places_of(alloc, known.as_slice(), text_print(text))?;
+    if places.len() > FEW {
+        return Ok(None);
+    }
+    let some = rows_at(alloc, rows, places.as_slice())?;
+    Ok(Some(some))
 }
