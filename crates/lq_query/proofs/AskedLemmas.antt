@@ -12,6 +12,8 @@ use Rattle.lq_model.specs.declared.fault.AskFault.{AskFault}
 use Rattle.lq_model.specs.declared.query.Answered.{Answered}
 use Rattle.lq_model.specs.declared.query.Query.{Query}
 use Rattle.lq_query.specs.Given.{against, answered, reasons_against}
+use Rattle.lq_query.specs.Source.{TakesAlike}
+use Rattle.lq_query.proofs.GivenLemmas.{answer_as}
 
 -- ---- reasons
 
@@ -44,6 +46,14 @@ passed by q s a is fits = still_passed (reasons_against by q s.columns) tt tt (a
 pub asked : (by : By) (q : Query) (c : Catalogue) (o : Option Source) (r : Result Answered AskFault) → source_of c q.table ≡ o → IsAnswer (answered by q o) r → IsAnswer (answer by q c) r
 unfolding answered
 asked by q c o r same is = subst (λ (z : Option Source). IsAnswer (answered by q z) r) (sym same) is
+
+same_taken : (by : By) (q : Query) (cs : List Column) (some all : List (List Value)) → TakesAlike q.test cs some all → answered by q (Some (record { columns = cs; rows = some })) ≡ answered by q (Some (record { columns = cs; rows = all }))
+unfolding answered
+same_taken by q cs some all same = ap (λ (rows : List (List Value)). unless (reasons_against by q cs) (answer_as q.wanted cs rows)) same
+
+pub asked_by : (by : By) (q : Query) (c : Catalogue) (cs : List Column) (some all : List (List Value)) (r : Result Answered AskFault) → source_of c q.table ≡ Some (record { columns = cs; rows = all }) → TakesAlike q.test cs some all
+    → IsAnswer (answered by q (Some (record { columns = cs; rows = some }))) r → IsAnswer (answer by q c) r
+asked_by by q c cs some all r there same is = asked by q c (Some (record { columns = cs; rows = all })) r there (subst (λ (z : Result Answered Reason). IsAnswer z r) (same_taken by q cs some all same) is)
 
 pub with_columns : (by : By) (q : Query) (cs shown : List Column) (rows : List (List Value)) (r : Result Answered AskFault) → cs ≡ shown
     → IsAnswer (answered by q (Some (record { columns = cs; rows = rows }))) r → IsAnswer (answered by q (Some (record { columns = shown; rows = rows }))) r

@@ -53,7 +53,7 @@ same_map (x ∷ xs) = ap (λ ys. x ∷ ys) (same_map xs)
 -- ---- rows
 
 -- the answer, by what is wanted of the rows that are taken
-abbrev answer_as : Wanted → List Column → List (List Value) → Answered
+abbrev pub answer_as : Wanted → List Column → List (List Value) → Answered
 answer_as w cs rows = elim w [
   | wanted.All ↦ record { columns = length cs; rows = rows }
   | wanted.Count ↦ record { columns = 1; rows = (value.Int (pos (length rows)) ∷ []) ∷ [] }

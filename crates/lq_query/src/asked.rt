@@ -1,15 +1,16 @@
 ghost use Rattle.std.specs.Option.{option_map};
-ghost use Rattle.std.specs.Prelude.{◌≡◌, Err, None, Some};
+ghost use Rattle.std.specs.Prelude.{◌≡◌, Err, List, None, Some, map};
+ghost use Rattle.lq_base.specs.declared.value.Value.{Value as Held};
 ghost use Rattle.lq_model.specs.Catalogue.{Catalogue, IsAnswer};
 ghost use Rattle.lq_model.specs.Views.{answer, source_of};
 ghost use Rattle.lq_query.specs.Given.{answered};
-ghost use Rattle.lq_query.specs.Source.{shown_rows, source_meant};
+ghost use Rattle.lq_query.specs.Source.{TakesAlike, shown_rows, source_meant};
 
 use crate::pick::columns_at;
 use crate::reading::Reading;
 use crate::refusal::{against, is_reserved};
 use crate::source::Source;
-use lq_base::{NoMemory, Reason};
+use lq_base::{Items, NoMemory, Reason, Value};
 use lq_model::{Answered, AskFault, By, Column, Query};
 use std::alloc::Global;
 
@@ -86,4 +87,49 @@ pub fn answer(
         Some(source) => answer_at(alloc, by, query, source),
         None => Err(AskFault::Refused(nothing_there(by, query))),
     }
+}
+
+// The answer where this table stands at the name.
+fn answer_of_rows<'a>(
+    alloc: Global,
+    by: By,
+    query: &'a Query,
+    columns: &'a [Column],
+    rows: &[&Items<Value>],
+) -> Result<Answered, AskFault>
+    ensures { IsAnswer
+        (answered by query.now
+        (Some (record { columns = columns.now; rows = map (λ row. row.now) rows.now })))
+        result }
+{
+    let reading = Reading {
+        query,
+        table: columns,
+        view: None,
+        columns,
+    };
+    match against(by, query, columns) {
+        Err(reason) => Err(AskFault::Refused(reason)),
+        Ok(()) => match reading.answered_of(alloc, rows) {
+            Ok(answered) => Ok(answered),
+            Err(NoMemory) => Err(AskFault::OutOfMemory),
+        },
+    }
+}
+
+/// The same where a table stands at the name, and these of its rows are enough: of them the query
+/// takes what it takes of all.
+pub fn answer_by(
+    alloc: Global,
+    by: By,
+    query: &Query,
+    columns: &[Column],
+    rows: &[&Items<Value>],
+) -> Result<Answered, AskFault>
+    ensures { (c : Catalogue) (all : List (List Held))
+        → source_of c query.now.table ≡ Some (record { columns = columns.now; rows = all })
+        → TakesAlike query.now.test columns.now (map (λ row. row.now) rows.now) all
+        → IsAnswer (answer by query.now c) result }
+{
+    answer_of_rows(alloc, by, query, columns, rows)
 }

@@ -11,7 +11,7 @@ mod sort;
 mod source;
 mod truth;
 
-pub use asked::answer;
+pub use asked::{answer, answer_by};
 pub use refusal::is_reserved;
 pub use source::{Shown, Source};
 pub use truth::{is_taken, kinds_agree, lacks_column, test_row};

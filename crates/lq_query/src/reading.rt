@@ -1,6 +1,6 @@
 ghost use Rattle.std.specs.List.{count_by, filter_map};
 ghost use Rattle.lq_base.specs.declared.value.Value.TheVariants.{Int};
-ghost use Rattle.std.specs.Prelude.{◌≡◌, ◌+◌, ◌∷◌, [], IfOk, pos};
+ghost use Rattle.std.specs.Prelude.{◌≡◌, ◌+◌, ◌∷◌, [], IfOk, map, pos};
 ghost use Rattle.lq_model.specs.Views.{answer_from};
 ghost use Rattle.lq_model.specs.Catalogue.{picked};
 ghost use Rattle.lq_query.specs.Given.{chosen, given, is_counted, taken};
@@ -122,6 +122,65 @@ impl Reading<'_> {
     }
 
     /// The answer, which nothing stands against.
+    // The same of rows that are lent one by one.
+    fn rows_of(
+        &self,
+        alloc: Global,
+        rows: &[&Items<Value>],
+    ) -> Result<Items<Items<Value>>, NoMemory>
+        ensures { IfOk result (λ found.
+            found
+            ≡ filter_map
+            (given self.now.view self.now.table.now self.now.query.now self.now.columns.now)
+            (map (λ row. row.now) rows.now)) }
+    {
+        let mut found = Items::new(alloc);
+        for row in rows {
+            if let Some(values) = self.given(alloc, row)? {
+                found.push(values)?;
+            }
+        }
+        Ok(found)
+    }
+
+    fn count_of(&self, alloc: Global, rows: &[&Items<Value>]) -> Result<u64, NoMemory>
+        ensures { IfOk result (λ count.
+            count
+            ≡ count_by
+            (is_counted self.now.view self.now.table.now self.now.query.now
+            self.now.columns.now) (map (λ row. row.now) rows.now)) }
+    {
+        let mut count = 0;
+        for row in rows {
+            if self.is_counted(alloc, row)? {
+                count = one_more(count)?;
+            }
+        }
+        Ok(count)
+    }
+
+    pub fn answered_of(&self, alloc: Global, rows: &[&Items<Value>]) -> Result<Answered, NoMemory>
+        ensures { IfOk result (λ answered.
+            answered
+            ≡ answer_from
+            (record {
+              columns = self.now.columns.now;
+              rows = shown_rows self.now.view self.now.table.now (map (λ row. row.now) rows.now);
+            }) self.now.query.now) }
+    {
+        match &self.query.wanted {
+            Wanted::Count => counted(alloc, self.count_of(alloc, rows)?),
+            Wanted::All => Ok(Answered {
+                columns: self.columns.len() as u64,
+                rows: self.rows_of(alloc, rows)?,
+            }),
+            Wanted::Columns(names) => Ok(Answered {
+                columns: names.len() as u64,
+                rows: self.rows_of(alloc, rows)?,
+            }),
+        }
+    }
+
     pub fn answered(
         &self,
         alloc: Global,
