@@ -20,7 +20,8 @@ use Rattle.lq_model.specs.declared.test.Op.TheVariants.{Eq}
 use Rattle.lq_model.specs.declared.test.Operand.TheVariants as operand
 use Rattle.lq_model.specs.declared.test.Test.{And, Compare, Test}
 use Rattle.lq_parts.proofs.OneRow.{only_there}
-use Rattle.lq_rows.specs.Stored.{ArePlaces}
+use Rattle.lq_query.specs.Source.{TakesAlike}
+use Rattle.lq_rows.specs.Stored.{ArePlaces, IsFront}
 use Rattle.lq_one_row.specs.Only.{Begin, Gives, IsOnly, IsPlain, is_taken_at}
 
 -- what is equal to a text that is no moment is that text
@@ -132,6 +133,10 @@ only_is test it t places at begin are one = record {
 pub only_some : (test : Option Test) (it : Table) (t : List ℕ) (places : List ℕ) (place : Option ℕ) → Begin test it.columns t → ArePlaces t it.rows places → IfSome place (λ at. filter (is_taken_at test it) places ≡ at ∷ []) → IfSome place (IsOnly test it)
 only_some test it t places None begin are one = tt
 only_some test it t places (Some at) begin are one = only_is test it t places at begin are one
+
+-- of the front the test takes what it takes of all
+pub front_taken : (test : Option Test) (cs : List Column) (t : List ℕ) (rows front : List (List Value)) → Begin test cs t → IsFront t rows front → TakesAlike test cs front rows
+front_taken test cs t rows front begin is = is.same (takes test cs) begin
 
 same_here : nat_eq 0 0 ≡ true
 same_here = refl

@@ -3,4 +3,4 @@
 
 mod only;
 
-pub use only::only_taken;
+pub use only::{front_of, only_taken};

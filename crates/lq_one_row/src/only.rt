@@ -1,19 +1,23 @@
 ghost use Rattle.std.specs.Bool.{OnTrue};
 ghost use Rattle.std.specs.List.{filter};
-ghost use Rattle.std.specs.Prelude.{◌≡◌, ◌∷◌, IfOk, IfSome, [], is_some, true};
+ghost use Rattle.std.specs.Prelude.{◌≡◌, ◌∷◌, IfOk, IfSome, [], is_some, map, true};
 ghost use Rattle.lq_base.specs.declared.literal.Literal.TheVariants as literals;
 ghost use Rattle.lq_model.specs.Catalogue.{table_of, the_table};
 ghost use Rattle.lq_model.specs.declared.test.Op.TheVariants.{Eq};
 ghost use Rattle.lq_model.specs.declared.test.Operand.TheVariants as operand;
 ghost use Rattle.lq_model.specs.declared.test.Test.{Compare};
+ghost use Rattle.lq_query.specs.Source.{TakesAlike};
 ghost use Rattle.lq_one_row.specs.Only.{Begin, Gives, IsOnly, IsPlain, is_taken_at};
 
 use lq_base::{Literal, Name, NoMemory, moment_of};
 use lq_model::{Column, Op, Operand, Test};
 use lq_parts::Parts;
 use lq_query::is_taken;
-use lq_rows::Held;
+use lq_rows::{Held, Row};
 use std::alloc::Global;
+
+/// So many rows are looked at one by one: the way to each begins at the nearest end.
+const FEW: usize = 32;
 
 /// Whether the text is no moment: then only a text is equal to it.
 #[tactic(auto, unfolding(lq_base::specs::Value::into_kind))]
@@ -161,6 +165,31 @@ pub fn only_taken(
         return Ok(None);
     };
     let places = parts.places(alloc, table, text)?;
+    if places.len() > FEW {
+        return Ok(None);
+    }
     let place = one_of(alloc, parts, table, test, &places)?;
     Ok(place)
+}
+
+#[tactic(auto, using(crate::proofs::OnlyLemmas::front_taken))]
+/// Rows of the table, in order, of which the test takes what it takes of all; where the test asks for
+/// the text that they begin with, and they are known and few.
+pub fn front_of<'a>(
+    alloc: Global,
+    held: &'a Held,
+    test: &Option<Test>,
+) -> Result<Option<Vec<&'a Row>>, NoMemory>
+    ensures { IfOk result (λ front. IfSome front (λ rows.
+        TakesAlike test.now held.now.now.columns (map (λ row. row.now) rows.items)
+        held.now.now.rows)) }
+{
+    let Some(text) = first_of(held.columns(), test) else {
+        return Ok(None);
+    };
+    let front = held.front(alloc, text)?;
+    match front {
+        Some(rows) => Ok(Some(rows)),
+        None => Ok(None),
+    }
 }
