@@ -4,3 +4,4 @@ mod PartLemmas
 mod SlotLemmas
 mod StepLemmas
 mod TakenLemmas
+mod TargetLemmas

@@ -4,7 +4,7 @@ use Rattle.std.proofs.Math.Seq.{drop-cons}
 use Rattle.std.specs.BTreeMap.{insert_entry}
 use Rattle.std.specs.BTreeSet.{BTreeSet, Updates, contains}
 use Rattle.std.specs.List.{flat_map, list_any}
-use Rattle.std.specs.Map.{lookup, set_value}
+use Rattle.std.specs.Map.{lookup, remove_entry, set_value}
 use Rattle.std.specs.Ordering.{is_eq, match_ordering}
 use Rattle.std.specs.declared.cmp.Ordering.TheVariants.{Equal, Greater, Less}
 use Rattle.lq_base.specs.Name.{beside, is_named, name_cmp}
@@ -20,7 +20,7 @@ use Rattle.lq_model.proofs.Lists.{and_left, and_right, any-append, map-map, name
 use Rattle.lq_model.proofs.Maps.{not_some, some_same}
 use Rattle.lq_model.proofs.Places.{in_placed}
 use Rattle.lq_parts.specs.Steps.{Entries, tables_of}
-use Rattle.lq_parts.specs.Taken.{AreKnown, Gains, HasJust, IsTrueOf, TableMap, begins, foreign_inside, foreign_stay, inner_stay, names_in}
+use Rattle.lq_parts.specs.Taken.{AreCounts, AreKnown, Gains, HasJust, IsTrueOf, TableMap, begins, foreign_inside, foreign_stay, inner_stay, names_in, targets_inside}
 use Rattle.lq_parts.specs.declared.taken.TakenNames.{TakenNames}
 use Rattle.lq_rows.specs.Stored.{Stored, shape_of, table_as}
 use Rattle.lq_rows.specs.declared.shape.Shape.{Shape}
@@ -41,7 +41,7 @@ second_first true false c = refl
 second_first false true c = refl
 second_first false false c = refl
 
-either_way : (a b : Name) → is_named a b ≡ is_named b a
+pub either_way : (a b : Name) → is_named a b ≡ is_named b a
 either_way a b = whether (is_named a b)
     (λ is. let e : a ≡ b = same_name a b is in rw (e) refl)
     (λ no. no ∙ sym (other_way a b no))
@@ -185,10 +185,11 @@ foreign_among old new was it a b stay =
 
 -- what stays known
 
-pub none_known : (names : TakenNames) → names.inner ≡ None → names.foreign ≡ None → (ts : TableMap) → AreKnown ts names
-none_known names inner foreign ts = record {
+pub none_known : (names : TakenNames) → names.inner ≡ None → names.foreign ≡ None → names.targets ≡ None → (ts : TableMap) → AreKnown ts names
+none_known names inner foreign targets ts = record {
   inner = subst (IsTrueOf (names_in names_inside ts)) (sym inner) tt;
   foreign = subst (IsTrueOf (names_in foreign_inside ts)) (sym foreign) tt;
+  targets = subst (AreCounts (names_in targets_inside ts)) (sym targets) tt;
 }
 
 any_flat : {X : Type 0} (p : Name → Bool) (f : X → List Name) (xs : List X) → list_any p (flat_map f xs) ≡ list_any (λ x. list_any p (f x)) xs
@@ -258,12 +259,22 @@ set_known names ts k it (Some set) same is = record {
       ∙ sym (any_flat (is_named n) names (set_value (is_named k) ts it) ∙ any_set (λ e. is_in n (names e)) ts k it (ap (is_in n) same));
 }
 
+-- a table in the place of one with the same foreign keys
+targets_stay : (ts : TableMap) (k : Name) (it : Table) → it.foreign ≡ (unwrap_or (lookup (is_named k) ts) no_table).foreign → names_in targets_inside (set_value (is_named k) ts it) ≡ names_in targets_inside ts
+targets_stay [] k it same = refl
+targets_stay (e ∷ ts) k it same =
+    elim (is_named k e.0) as (λ b. it.foreign ≡ (unwrap_or (cond b (Some e.1) (lookup (is_named k) ts)) no_table).foreign → names_in targets_inside (cond b ((e.0, it) ∷ ts) (e ∷ set_value (is_named k) ts it)) ≡ names_in targets_inside (e ∷ ts)) [
+      | true ↦ λ q. ap (λ fs. map (λ (f : ForeignKey). f.table) fs ++ names_in targets_inside ts) q
+      | false ↦ λ q. ap (λ ns. targets_inside e ++ ns) (targets_stay ts k it q)
+    ] same
+
 -- a table in the place of another that has the same names inside
 pub rows_known : (before after : History TableMap) (k : Name) (it : Table) (names : TakenNames) → after ≡ changed before (set_value (is_named k) before.now it)
-    → inner_names it ≡ inner_names (unwrap_or (lookup (is_named k) before.now) no_table) → foreign_names it ≡ foreign_names (unwrap_or (lookup (is_named k) before.now) no_table) → AreKnown before.now names → AreKnown after.now names
+    → inner_names it ≡ inner_names (unwrap_or (lookup (is_named k) before.now) no_table) → it.foreign ≡ (unwrap_or (lookup (is_named k) before.now) no_table).foreign → AreKnown before.now names → AreKnown after.now names
 rows_known before after k it names is inner foreign known = subst (λ (h : History TableMap). AreKnown h.now names) (sym is) (record {
   inner = set_known names_inside before.now k it names.inner (ap (placed k) inner) known.inner;
-  foreign = set_known foreign_inside before.now k it names.foreign foreign known.foreign;
+  foreign = set_known foreign_inside before.now k it names.foreign (ap (map (λ (f : ForeignKey). f.name)) foreign) known.foreign;
+  targets = subst (λ ns. AreCounts ns names.targets) (sym (targets_stay before.now k it foreign)) known.targets;
 })
 
 -- a new table whose names were added
@@ -273,3 +284,7 @@ put_known before after k it names is known = subst (λ (h : History TableMap). A
 -- a table of another shape
 pub shaped_known : (before after : History TableMap) (k : Name) (it : Table) (names : TakenNames) → after ≡ changed before (set_value (is_named k) before.now it) → AreKnown (set_value (is_named k) before.now it) names → AreKnown after.now names
 shaped_known before after k it names is known = subst (λ (h : History TableMap). AreKnown h.now names) (sym is) known
+
+-- a table that was taken away
+pub taken_known : (before after : History TableMap) (k : Name) (names : TakenNames) → after ≡ changed before (remove_entry (is_named k) before.now) → AreKnown (remove_entry (is_named k) before.now) names → AreKnown after.now names
+taken_known before after k names is known = subst (λ (h : History TableMap). AreKnown h.now names) (sym is) known

@@ -1,11 +1,11 @@
 -- Entries in the order of their names.
-use Rattle.std.specs.BTreeMap.{insert_entry}
+use Rattle.std.specs.BTreeMap.{BTreeMap, get, insert_entry}
 use Rattle.std.specs.BTreeSet.{BTreeSet, contains}
 use Rattle.std.specs.FinMap.Entries.{is_sorted}
-use Rattle.std.specs.List.{flat_map, insert, position_or_len, remove}
-use Rattle.std.specs.Map.{remove_entry}
+use Rattle.std.specs.List.{count_by, flat_map, insert, position_or_len, remove}
+use Rattle.std.specs.Map.{count_at, remove_entry}
 use Rattle.std.specs.Ordering.{is_le}
-use Rattle.std.specs.Prelude.{Bool, List, None, Option, Some, T, [], false, length, map, true, ℕ, ℤ, ⊤, ◌&&◌, ◌<◌, ◌||◌, ◌∷◌, ◌≡◌, ◌≤◌}
+use Rattle.std.specs.Prelude.{Bool, List, None, Option, Some, T, [], false, length, map, true, ℕ, ℤ, ⊤, ◌&&◌, ◌+◌, ◌-◌, ◌<◌, ◌||◌, ◌∷◌, ◌≡◌, ◌≤◌}
 use Rattle.lq_base.specs.Name.{is_named, name_cmp}
 use Rattle.lq_base.specs.declared.name.Name.{Name}
 use Rattle.lq_chain.specs.History.{History, back}
@@ -105,6 +105,10 @@ names_in names ts = flat_map names ts
 abbrev pub foreign_inside : Name × Table → List Name
 foreign_inside e = foreign_names e.1
 
+-- the tables that the foreign keys of a table target, one for each
+abbrev pub targets_inside : Name × Table → List Name
+targets_inside e = map (λ f. f.table) e.1.foreign
+
 -- the set has just these names
 pub record HasJust (ns : List Name) (set : BTreeSet Name) : Type 0 where
   pub members : (n : Name) → contains name_cmp set n ≡ is_in n ns
@@ -118,10 +122,28 @@ abbrev pub IsTrueOf : List Name → Option (BTreeSet Name) → Type 0
 IsTrueOf ns None = ⊤
 IsTrueOf ns (Some set) = HasJust ns set
 
+-- the map has how often each name stands among these
+pub record HasCounts (ns : List Name) (counts : BTreeMap Name ℕ) : Type 0 where
+  pub each : (n : Name) → count_at (get name_cmp counts) n ≡ count_by (is_named n) ns
+
+-- new has each of these names once more than old
+pub record CountsMore (ns : List Name) (old new : BTreeMap Name ℕ) : Type 0 where
+  pub each : (n : Name) → count_at (get name_cmp new) n ≡ count_by (is_named n) ns + count_at (get name_cmp old) n
+
+-- and once less, or not at all
+pub record CountsLess (ns : List Name) (old new : BTreeMap Name ℕ) : Type 0 where
+  pub each : (n : Name) → count_at (get name_cmp new) n ≡ count_at (get name_cmp old) n - count_by (is_named n) ns
+
+-- the map, where it is known, has how often each name stands among these
+abbrev pub AreCounts : List Name → Option (BTreeMap Name ℕ) → Type 0
+AreCounts ns None = ⊤
+AreCounts ns (Some counts) = HasCounts ns counts
+
 -- what is known of the names inside these tables is true
 pub record AreKnown (tables : TableMap) (names : TakenNames) : Type 0 where
   pub inner : IsTrueOf (names_in names_inside tables) names.inner
   pub foreign : IsTrueOf (names_in foreign_inside tables) names.foreign
+  pub targets : AreCounts (names_in targets_inside tables) names.targets
 
 -- the second list begins with the names of the first
 abbrev pub begins : List Name → List Name → Bool

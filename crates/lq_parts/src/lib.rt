@@ -10,6 +10,7 @@ mod slot;
 mod step;
 mod tables;
 mod taken;
+mod targets;
 
 pub use lq_rows::RunFault;
 pub use object::{Sequence, View};

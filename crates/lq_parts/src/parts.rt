@@ -1,13 +1,15 @@
+ghost use Rattle.std.specs.Bool.{OnTrue};
 ghost use Rattle.std.specs.List.{flat_map};
-ghost use Rattle.std.specs.Map.{lookup, set_value};
+ghost use Rattle.std.specs.Map.{lookup, remove_entry, set_value};
 ghost use Rattle.std.specs.Option.{option_copied};
-ghost use Rattle.std.specs.Prelude.{◌≡◌, ◌≤◌, ◌<◌, None, [], IfOk, IfSome, OnErr, OnOk, is_some, length, option_map, true};
+ghost use Rattle.std.specs.Prelude.{◌≡◌, ◌≤◌, ◌<◌, None, [], IfOk, IfSome, OnErr, OnOk, is_some, false, length, option_map, true};
 ghost use Rattle.lq_base.specs.Name.{is_named};
 ghost use Rattle.lq_chain.specs.History.{back, changed, history, marked, step_shorter, undone_to};
 ghost use Rattle.lq_chain.specs.Marks.{kept_rows, replaced};
 ghost use Rattle.lq_model.specs.Catalogue.{Table, no_objects, sequence_of, table_of, the_table, view_of, with_new, with_sequence, with_table, with_view, without_sequence, without_table, without_view, is_in};
 ghost use Rattle.lq_model.specs.NameSpaces.{all_foreign_names, names_inside, object_names, shared_names};
 ghost use Rattle.lq_model.specs.Plan.{is_twin};
+ghost use Rattle.lq_model.specs.Tables.{is_targeted};
 ghost use Rattle.lq_parts.specs.Taken.{with_renamed, AreKnown};
 ghost use Rattle.lq_parts.specs.Steps.{tables_of};
 ghost use Rattle.lq_rows.specs.Stored.{ArePlaces, has_values_in, shape_of, with_all, with_row, with_row_at, with_shape, without_row};
@@ -17,6 +19,7 @@ use crate::part::Part;
 use crate::shelf::Shelf;
 use crate::tables::Tables;
 use crate::taken::TakenNames;
+use crate::targets::aiming;
 use lq_base::{Name, NoMemory, Value};
 use lq_rows::{Held, Row, Shape, Values};
 use lq_undo::{Undo, undo_to};
@@ -218,6 +221,28 @@ impl Parts {
         self.names.has_foreign(self.tables.entries(), name)
     }
 
+    /// Makes known how many foreign keys target each table.
+    pub fn see_targets(&mut self) -> Result<(), NoMemory>
+        ensures { self.new ≡ self.old }
+    {
+        self.names.see_targets(self.tables.entries())
+    }
+
+    /// Whether it is known that no other table's foreign key targets the table, without a look at all
+    /// tables.
+    pub fn is_untargeted(&self, table: &Name) -> bool
+        ensures { OnTrue result (is_targeted self.now.now table.now ≡ false) }
+    {
+        let Some(held) = self.tables.get(table) else {
+            return false;
+        };
+        let own = aiming(held.foreign_keys(), table);
+        match self.names.knows_targets(table) {
+            Some(all) if all <= own => true,
+            _ => false,
+        }
+    }
+
     fn knows_inner_name(&self, name: &Name) -> Option<bool>
         ensures { IfSome result (λ found.
             found ≡ is_in name.now (flat_map names_inside self.now.now.tables)) }
@@ -277,10 +302,17 @@ impl Parts {
         ensures err { OnErr result (self.new ≡ self.old) }
     {
         self.done.reserve(1)?;
-        self.tables.take(name)?;
-        self.names.forget();
-        self.done.push_reserved(Part::Tables);
-        Ok(())
+        unlearn_table(&mut self.names, &self.tables, name);
+        match self.tables.take(name) {
+            Ok(()) => {
+                self.done.push_reserved(Part::Tables);
+                Ok(())
+            }
+            Err(NoMemory) => {
+                self.names.forget();
+                Err(NoMemory)
+            }
+        }
     }
 
     /// Gives the table of a name another one, or changes nothing. Foreign keys that aim at it are as
@@ -517,6 +549,18 @@ fn learn_shape(names: &mut TakenNames, tables: &Tables, name: &Name, shape: &Sha
 {
     match tables.get(name) {
         Some(held) => names.reshape(name, held.shape(), shape),
+        None => unreachable!(),
+    }
+}
+
+/// What is known of the names inside the tables, after the table was taken away.
+fn unlearn_table(names: &mut TakenNames, tables: &Tables, name: &Name)
+    requires { is_some (lookup (is_named name.now) tables.now.now) ≡ true }
+    ensures { AreKnown tables.now.now names.old
+        → AreKnown (remove_entry (is_named name.now) tables.now.now) names.new }
+{
+    match tables.get(name) {
+        Some(held) => names.take(held.shape()),
         None => unreachable!(),
     }
 }

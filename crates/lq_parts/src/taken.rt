@@ -1,19 +1,21 @@
-ghost use Rattle.std.specs.Map.{lookup, set_value};
+ghost use Rattle.std.specs.Map.{lookup, remove_entry, set_value};
 ghost use Rattle.std.specs.BTreeMap.{insert_entry};
+ghost use Rattle.std.specs.List.{count_by};
 ghost use Rattle.std.specs.Prelude.{◌≡◌, ◌∷◌, ◌++◌, List, None, Some, [], IfOk, IfSome, OnOk, map};
 ghost use Rattle.lq_base.specs.Name.{beside, is_named, name_cmp};
 ghost use Rattle.lq_base.specs.declared.name.Name.{Name};
 ghost use Rattle.lq_model.specs.Catalogue.{Table, is_in, foreign_names, key_list};
 ghost use Rattle.lq_model.specs.NameSpaces.{names_inside};
 ghost use Rattle.lq_parts.specs.Steps.{tables_of};
-ghost use Rattle.lq_parts.specs.Taken.{AreKnown, Gains, HasJust, IsTrueOf, TableMap, begins, foreign_inside, foreign_stay, inner_stay, names_in};
+ghost use Rattle.lq_parts.specs.Taken.{AreCounts, AreKnown, Gains, HasCounts, HasJust, IsTrueOf, TableMap, begins, foreign_inside, foreign_stay, inner_stay, names_in, targets_inside};
 ghost use Rattle.lq_rows.specs.Stored.{shape_of};
 
+use crate::targets::{count_of, learn_targets, see_targets, unlearn_targets};
 use lq_base::{Duplicate, Name, NoMemory, placed};
 use lq_model::{ForeignKey, Index, Key, Unique};
 use lq_rows::{Held, Shape};
 use std::alloc::Global;
-use std::collections::BTreeSet;
+use std::collections::{BTreeMap, BTreeSet};
 
 /// What is known of the names inside the tables: each set is made when it is first asked for.
 #[derive(Drop)]
@@ -23,6 +25,8 @@ pub struct TakenNames {
     pub(crate) inner: Option<BTreeSet<Name>>,
     /// The names of foreign keys.
     pub(crate) foreign: Option<BTreeSet<Name>>,
+    /// How many foreign keys target each table.
+    pub(crate) targets: Option<BTreeMap<Name, u64>>,
 }
 
 impl TakenNames {
@@ -35,6 +39,7 @@ impl TakenNames {
             alloc,
             inner: None,
             foreign: None,
+            targets: None,
         }
     }
 
@@ -45,6 +50,7 @@ impl TakenNames {
     {
         self.inner = None;
         self.foreign = None;
+        self.targets = None;
     }
 
     /// Whether the key, a unique constraint or an index of one of the tables has the name, where it
@@ -88,6 +94,24 @@ impl TakenNames {
         known_in(&self.foreign, name)
     }
 
+    /// Makes known how many foreign keys target each table.
+    pub fn see_targets(&mut self, tables: &[(Name, Held)]) -> Result<(), NoMemory>
+        requires { AreKnown (tables_of tables.now) self.old }
+        ensures { AreKnown (tables_of tables.now) self.new }
+    {
+        see_targets(self.alloc, &mut self.targets, tables)
+    }
+
+    /// How many foreign keys target the table, where that is known.
+    pub fn knows_targets(&self, table: &Name) -> Option<u64>
+        ensures { (tables : TableMap)
+            → AreKnown tables self.now
+            → IfSome result (λ count.
+            count ≡ count_by (is_named table.now) (names_in targets_inside tables)) }
+    {
+        count_in(&self.targets, table)
+    }
+
     /// Adds the names inside a new table to what is known, which it drops where memory is wanting.
     pub fn add(&mut self, table: &Name, shape: &Shape)
         ensures { (tables : TableMap) (it : Table)
@@ -112,7 +136,24 @@ impl TakenNames {
     {
         learn_inner(self.alloc, &mut self.inner, table, shape)?;
         learn_foreign(self.alloc, &mut self.foreign, shape)?;
+        learn_targets(self.alloc, &mut self.targets, shape)?;
         Ok(())
+    }
+
+    /// What is known, after a table of this shape was taken away.
+    pub fn take(&mut self, shape: &Shape)
+        ensures { (tables : TableMap) (n : Name) (was : Table)
+            → shape.now ≡ shape_of was
+            → lookup (is_named n) tables ≡ Some was
+            → AreKnown tables self.old
+            → AreKnown (remove_entry (is_named n) tables) self.new }
+    {
+        self.inner = None;
+        self.foreign = None;
+        match unlearn_targets(self.alloc, &mut self.targets, shape) {
+            Ok(()) => {}
+            Err(NoMemory) => self.targets = None,
+        }
     }
 
     /// What is known, after a table got another shape: all that was known, where the names of the old
@@ -142,6 +183,8 @@ impl TakenNames {
     {
         relearn_inner(self.alloc, &mut self.inner, table, old, new)?;
         relearn_foreign(self.alloc, &mut self.foreign, old, new)?;
+        unlearn_targets(self.alloc, &mut self.targets, old)?;
+        learn_targets(self.alloc, &mut self.targets, new)?;
         Ok(())
     }
 }
@@ -155,6 +198,25 @@ fn known_in(known: &Option<BTreeSet<Name>>, name: &Name) -> Option<bool>
         None => None,
         Some(set) => Some(has_name(set, name)),
     }
+}
+
+fn count_in(known: &Option<BTreeMap<Name, u64>>, table: &Name) -> Option<u64>
+    ensures { (ns : List Name)
+        → AreCounts ns known.now
+        → IfSome result (λ count. count ≡ count_by (is_named table.now) ns) }
+{
+    match known {
+        None => None,
+        Some(counts) => Some(counts_to(counts, table)),
+    }
+}
+
+fn counts_to(counts: &BTreeMap<Name, u64>, table: &Name) -> u64
+    ensures { (ns : List Name)
+        → HasCounts ns counts.now
+        → result ≡ count_by (is_named table.now) ns }
+{
+    count_of(counts, table)
 }
 
 /// Whether the set, which is made of the tables where it is not known yet, has the name.
