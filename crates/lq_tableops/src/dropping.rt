@@ -7,20 +7,30 @@ ghost use Rattle.lq_decide.specs.Faults.{no_faults};
 ghost use Rattle.lq_arm.specs.Verdict.{tests_of, verdict_of};
 ghost use Rattle.lq_rows.specs.Stored.{Answers};
 
-use crate::needs::{is_targeted, is_viewed};
+use crate::needs::{has_targets, is_targeted, is_viewed};
 use lq_arm::Tests;
-use lq_base::{Dialect, Name};
+use lq_base::{Dialect, Name, NoMemory};
 use lq_model::By;
 use lq_parts::{Parts, RunFault};
 use lq_query::is_reserved;
 
 /// DROP TABLE on a sound catalogue, on someone's behalf.
+#[tactic(auto, using(lq_rows::proofs::Continued::stays))]
 pub fn drop_table(
     parts: &mut Parts,
     by: By,
     dialect: Dialect,
     table: &Name,
 ) -> Result<u64, RunFault>
+    requires { IsSound dialect parts.old.now }
+    ensures { Answers (decide (spec.drop_table by dialect table.now parts.old.now)) parts.old
+        parts.new result }
+{
+    learn_targets(parts, table)?;
+    drop_tested(parts, by, dialect, table)
+}
+
+fn drop_tested(parts: &mut Parts, by: By, dialect: Dialect, table: &Name) -> Result<u64, RunFault>
     requires { IsSound dialect parts.old.now }
     ensures { Answers (decide (spec.drop_table by dialect table.now parts.old.now)) parts.old
         parts.new result }
@@ -32,6 +42,16 @@ pub fn drop_table(
     }
     parts.take_table(table)?;
     Ok(0)
+}
+
+// What is asked of the other tables gets known once, for all statements.
+fn learn_targets(parts: &mut Parts, table: &Name) -> Result<(), NoMemory>
+    ensures { parts.new ≡ parts.old }
+{
+    if has_targets(parts, table) {
+        parts.see_targets()?;
+    }
+    Ok(())
 }
 
 fn drop_tests(parts: &Parts, by: By, table: &Name) -> Tests

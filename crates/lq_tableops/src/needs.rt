@@ -40,7 +40,7 @@ fn one_aims(table: &Name, entries: &[(Name, Held)]) -> bool
 }
 
 /// Whether the table has a key or a unique constraint, which a foreign key may target.
-fn has_targets(parts: &Parts, table: &Name) -> bool
+pub fn has_targets(parts: &Parts, table: &Name) -> bool
     ensures { result
         ≡
         (is_some (the_table parts.now.now table.now).key
@@ -52,13 +52,17 @@ fn has_targets(parts: &Parts, table: &Name) -> bool
     }
 }
 
-/// Whether another table's foreign key targets the table. No other table is looked at where none may.
+/// Whether another table's foreign key targets the table. No other table is looked at where none may,
+/// nor where it is known that none does.
 #[tactic(auto, using(lq_model::proofs::Lists::any_mapped))]
 pub fn is_targeted(parts: &Parts, table: &Name) -> bool
     requires { is_loose parts.now.now ≡ false }
     ensures { result ≡ is_targeted parts.now.now table.now }
 {
     if !has_targets(parts, table) {
+        return false;
+    }
+    if parts.is_untargeted(table) {
         return false;
     }
     one_aims(table, parts.tables())
