@@ -1,5 +1,5 @@
 -- Lemmas on the names of objects.
-use Rattle.std.proofs.Common.{List, ap, refl, sym, [], reverse, ◌++◌, ◌∙◌, ◌∷◌, ◌≡◌}
+use Rattle.std.proofs.Common.{List, ap, refl, sym, [], ◌++◌, ◌∙◌, ◌∷◌, ◌≡◌}
 use Rattle.std.proofs.lemmas.List.{append-nil, append_assoc}
 use Rattle.std.specs.List.Sorted.{IsStrictlySortedBy}
 use Rattle.std.specs.Map.{keys_of}
@@ -12,7 +12,6 @@ use Rattle.lq_engine.specs.declared.names.Sort.TheVariants.{Sequence, Table, Vie
 use Rattle.lq_model.specs.Catalogue.{Catalogue}
 use Rattle.lq_model.specs.Sound.{IsSound}
 use Rattle.lq_parts.specs.Steps.{Entries, tables_of}
-use Rattle.lq_rows.specs.Stored.{Stored}
 
 pub same_keys : (es : Entries) → keys_of (tables_of es) ≡ keys_of es
 same_keys [] = refl

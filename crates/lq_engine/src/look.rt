@@ -6,7 +6,7 @@ ghost use Rattle.lq_engine.specs.State.{State};
 ghost use Rattle.lq_model.specs.Catalogue.{sequence_of, view_of, at_table};
 
 use crate::engine::Engine;
-use crate::source::source_at;
+use crate::source::{answer_of, source_at};
 use lq_base::Name;
 use lq_chain::Iter;
 use lq_model::{Answered, AskFault, By, Column, ForeignKey, Index, Key, Look, Query, Unique};
@@ -110,7 +110,10 @@ impl Look for Engine {
     }
 
     fn ask(&self, alloc: Global, by: By, query: &Query) -> Result<Answered, AskFault> {
-        answer(alloc, by, query, source_at(&self.parts, &query.table))
+        match self.parts.table(&query.table) {
+            Some(held) => answer_of(alloc, by, query, held),
+            None => answer(alloc, by, query, source_at(&self.parts, &query.table)),
+        }
     }
 }
 
