@@ -5,7 +5,8 @@ use Rattle.std.proofs.lemmas.List.{length-take, length-take-le}
 use Rattle.lq_base.specs.declared.dialect.Dialect.{Dialect}
 use Rattle.lq_base.specs.Sql.{begins, sort_at, length_at, units}
 use Rattle.lq_sqllex.specs.Laws.{IsInside, DelimitersAreInside}
-use Rattle.lq_sqllex.specs.Pieces.{is_enclosed, is_delimited, together, unit_at, onto, between, cut}
+use Rattle.lq_marks.specs.Enclosed.{is_enclosed}
+use Rattle.lq_sqllex.specs.Pieces.{is_delimited, together, unit_at, onto, between, cut}
 use Rattle.lq_sqllex.proofs.PieceOrder.{Units, front_of, nothing_left}
 use Rattle.lq_sqllex.proofs.WholeText.{map_some}
 

@@ -8,7 +8,8 @@ use Rattle.std.proofs.lemmas.Bool.Decides.{Decides-eqb}
 use Rattle.std.proofs.lemmas.Slice.Eq.{starts_is}
 use Rattle.lq_base.specs.declared.dialect.Dialect.{Dialect}
 use Rattle.lq_base.specs.Sql.{begins, sort_at, is_trivia, units}
-use Rattle.lq_sqllex.specs.Pieces.{is_enclosed, is_delimited, together, unit_at, onto, between, cut, kept, pieces}
+use Rattle.lq_marks.specs.Enclosed.{is_enclosed}
+use Rattle.lq_sqllex.specs.Pieces.{is_delimited, together, unit_at, onto, between, cut, kept, pieces}
 use Rattle.lq_sqllex.proofs.UnitSteps.{units_front, units_open}
 
 abbrev Units : Type 0

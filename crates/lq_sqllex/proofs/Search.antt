@@ -8,7 +8,8 @@ use Rattle.std.proofs.lemmas.Bool.Decides.{Decides-eqb}
 use Rattle.std.proofs.lemmas.Slice.Eq.{starts_is}
 use Rattle.lq_base.specs.declared.dialect.Dialect.{Dialect}
 use Rattle.lq_base.specs.Sql.{begins, sort_at}
-use Rattle.lq_sqllex.specs.Pieces.{is_enclosed, is_delimited, together}
+use Rattle.lq_marks.specs.Enclosed.{is_enclosed}
+use Rattle.lq_sqllex.specs.Pieces.{is_delimited, together}
 use Rattle.lq_sqllex.proofs.PieceSteps.{begins_with}
 
 and_false : (a : Bool) → (a && false) ≡ false

@@ -11,7 +11,8 @@ use Rattle.lq_base.specs.declared.lexeme.LexemeSort.{LexemeSort}
 use Rattle.lq_base.specs.declared.lexeme.LexemeSort.TheVariants.{Blank, LineComment, BlockComment, Name, Text, Number, Word, Mark}
 use Rattle.lq_sqllex.specs.Laws.{LexemesAreTheText, PiecesAreTheText, PiecesHaveWords, joined}
 use Rattle.lq_base.specs.Sql.{sort_at, length_of, length_at, lexeme_at, lexemes, is_trivia, after, units}
-use Rattle.lq_sqllex.specs.Pieces.{is_enclosed, is_delimited, together, unit_at, onto, between, cut, kept, pieces}
+use Rattle.lq_marks.specs.Enclosed.{is_enclosed}
+use Rattle.lq_sqllex.specs.Pieces.{is_delimited, together, unit_at, onto, between, cut, kept, pieces}
 use Rattle.lq_sqllex.proofs.PieceSteps.{begins_with, delimiter_begins}
 
 pub map_some : {A B P : Type 0} (f : A → B) (o : Option A) (y : B) → option_map f o ≡ Some y → ((x : A) → o ≡ Some x → f x ≡ y → P) → P

@@ -5,7 +5,8 @@ use Rattle.lq_base.specs.Sql.{after, begins, comment_end, comment_length, escape
 use Rattle.lq_base.specs.declared.dialect.Dialect.{Dialect}
 use Rattle.lq_base.specs.declared.lexeme.LexemeSort.{LexemeSort}
 use Rattle.lq_base.specs.declared.lexeme.LexemeSort.TheVariants.{Name, Text}
-use Rattle.lq_sqllex.specs.Pieces.{cut, is_enclosed, pieces}
+use Rattle.lq_marks.specs.Enclosed.{is_enclosed}
+use Rattle.lq_sqllex.specs.Pieces.{cut, pieces}
 
 -- the lexemes of a text, one after the other, are the text
 abbrev pub LexemesAreTheText : Type 0

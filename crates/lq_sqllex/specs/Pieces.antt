@@ -2,16 +2,7 @@
 use Rattle.std.specs.Prelude.{Bool, List, Option, Some, [], false, filter, if◌then◌else◌, length, not, option_map, true, ℕ, ◌&&◌, ◌++◌, ◌∷◌}
 use Rattle.lq_base.specs.Sql.{begins, is_trivia, length_at, sort_at, units}
 use Rattle.lq_base.specs.declared.dialect.Dialect.{Dialect}
-use Rattle.lq_base.specs.declared.lexeme.LexemeSort.{LexemeSort}
-use Rattle.lq_base.specs.declared.lexeme.LexemeSort.TheVariants.{BlockComment, LineComment, Name, Text}
-
--- strings, quoted names and comments, in which no delimiter counts
-abbrev pub is_enclosed : LexemeSort → Bool
-is_enclosed LineComment = true
-is_enclosed BlockComment = true
-is_enclosed Name = true
-is_enclosed Text = true
-is_enclosed _ = false
+use Rattle.lq_marks.specs.Enclosed.{is_enclosed}
 
 -- how many bytes at the front of a text stand together, where no delimiter is: a whole string, quoted name or comment, or else one byte
 abbrev pub together : Dialect → List ℕ → Option ℕ

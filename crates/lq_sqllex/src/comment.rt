@@ -1,9 +1,9 @@
 ghost use Rattle.std.specs.Prelude.{◌≡◌, ◌<◌, ◌≤◌, length, IfSome};
 ghost use Rattle.lq_base.specs.Sql.{begins_line_comment, begins_block_comment, closes, opens, comment_end, comment_length};
 
-use crate::byte::{begins, byte_at, from, is_blank};
 use crate::quoted::after;
 use lq_base::Dialect;
+use lq_marks::{begins, byte_at, from, is_blank};
 
 pub(crate) fn begins_line_comment(dialect: Dialect, text: &[u8]) -> bool
     ensures { result ≡ begins_line_comment dialect text.now }

@@ -2,11 +2,11 @@ ghost use Rattle.std.specs.Prelude.{◌≡◌, ◌+◌, ◌<◌, ◌≤◌, leng
 ghost use Rattle.std.specs.List.{prefix_len};
 ghost use Rattle.lq_base.specs.Sql.{mark_length, goes_on, length_of, length_at};
 
-use crate::byte::{begins, escapes, from, is_blank, is_number_byte, is_word_byte, nests};
 use crate::comment::comment_length;
 use crate::quoted::quoted_length;
 use crate::sort::sort_at;
 use lq_base::{Dialect, LexemeSort};
+use lq_marks::{begins, escapes, from, is_blank, is_number_byte, is_word_byte, nests};
 
 fn mark_length(text: &[u8]) -> usize
     ensures value { result ≡ mark_length text.now }

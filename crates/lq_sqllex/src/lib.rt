@@ -1,7 +1,6 @@
 //! The lexemes of SQL in both dialects, and a text cut into its pieces.
 #![tactic(auto)]
 
-mod byte;
 mod comment;
 mod fault;
 pub mod laws;

@@ -1,23 +1,13 @@
 ghost use Rattle.std.specs.Prelude.{◌≡◌, ◌++◌, ◌+◌, ◌<◌, ◌≤◌, [], ◌∷◌, length, drop, Some, None, Err, IfOk, IfSome, OnOk};
-ghost use Rattle.lq_sqllex.specs.Pieces.{is_enclosed, is_delimited, together, kept, pieces};
+ghost use Rattle.lq_sqllex.specs.Pieces.{is_delimited, together, kept, pieces};
 
-use crate::byte::{begins, from};
 use crate::fault::SplitFault;
 use crate::length::length_at;
 use crate::sort::sort_at;
 use crate::trivia::is_trivia;
-use lq_base::{Dialect, Items, LexemeSort, NoMemory, Text};
+use lq_base::{Dialect, Items, NoMemory, Text};
+use lq_marks::{begins, from, is_enclosed};
 use std::alloc::Global;
-
-fn is_enclosed(sort: LexemeSort) -> bool
-    ensures { result ≡ is_enclosed sort }
-{
-    match sort {
-        LexemeSort::LineComment | LexemeSort::BlockComment | LexemeSort::Name | LexemeSort::Text =>
-            true,
-        _ => false,
-    }
-}
 
 fn is_delimited(dialect: Dialect, delimiter: &[u8], text: &[u8]) -> bool
     ensures { result ≡ is_delimited dialect delimiter.now text.now }

@@ -1,7 +1,7 @@
 ghost use Rattle.std.specs.Prelude.{◌≡◌, ◌+◌, ◌<◌, ◌≤◌, ◌^◌, length, IfSome};
 ghost use Rattle.lq_base.specs.Sql.{after, is_pair, quoted_end, quoted_length};
 
-use crate::byte::{byte_at, from};
+use lq_marks::{byte_at, from};
 
 pub(crate) fn after(count: usize, more: Option<usize>) -> Option<usize>
     requires { IfSome more (λ n. count + n < 2 ^ 64) }

@@ -1,9 +1,9 @@
 ghost use Rattle.std.specs.Prelude.{◌≡◌};
 ghost use Rattle.lq_base.specs.Sql.{begins_number, plain_sort, sort_at};
 
-use crate::byte::{byte_at, is_blank, is_name_quote, is_text_quote, is_word_byte};
 use crate::comment::{begins_block_comment, begins_line_comment};
 use lq_base::{Dialect, LexemeSort};
+use lq_marks::{byte_at, is_blank, is_name_quote, is_text_quote, is_word_byte};
 
 fn begins_number(first: u8, second: u8) -> bool
     ensures { result ≡ begins_number first second }

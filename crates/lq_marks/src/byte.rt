@@ -3,45 +3,45 @@ ghost use Rattle.lq_base.specs.Sql.{begins, is_blank, is_word_byte, is_number_by
 
 use lq_base::Dialect;
 
-pub(crate) fn begins(mark: &[u8], text: &[u8]) -> bool
+pub fn begins(mark: &[u8], text: &[u8]) -> bool
     ensures { result ≡ begins mark.now text.now }
 {
     text.starts_with(mark)
 }
 
 // The byte there, or 0 past the end.
-pub(crate) fn byte_at(text: &[u8], at: usize) -> u8
+pub fn byte_at(text: &[u8], at: usize) -> u8
     ensures { result ≡ slice_index text.now at }
 {
     text.get(at).copied().unwrap_or(0)
 }
 
 // What stands from there on, or nothing past the end.
-pub(crate) fn from(text: &[u8], at: usize) -> &[u8]
+pub fn from(text: &[u8], at: usize) -> &[u8]
     ensures { result.now ≡ drop at text.now }
 {
     text.get(at..).unwrap_or(&[])
 }
 
-pub(crate) fn is_blank(byte: u8) -> bool
+pub fn is_blank(byte: u8) -> bool
     ensures { result ≡ is_blank byte }
 {
     byte == b' ' || byte == b'\t' || byte == b'\r' || byte == b'\n'
 }
 
-pub(crate) fn is_word_byte(byte: u8) -> bool
+pub fn is_word_byte(byte: u8) -> bool
     ensures { result ≡ is_word_byte byte }
 {
     byte.is_ascii_alphanumeric() || byte == b'_'
 }
 
-pub(crate) fn is_number_byte(byte: u8) -> bool
+pub fn is_number_byte(byte: u8) -> bool
     ensures { result ≡ is_number_byte byte }
 {
     is_word_byte(byte) || byte == b'.'
 }
 
-pub(crate) fn is_text_quote(dialect: Dialect, byte: u8) -> bool
+pub fn is_text_quote(dialect: Dialect, byte: u8) -> bool
     ensures { result ≡ is_text_quote dialect byte }
 {
     match dialect {
@@ -50,7 +50,7 @@ pub(crate) fn is_text_quote(dialect: Dialect, byte: u8) -> bool
     }
 }
 
-pub(crate) fn is_name_quote(dialect: Dialect, byte: u8) -> bool
+pub fn is_name_quote(dialect: Dialect, byte: u8) -> bool
     ensures { result ≡ is_name_quote dialect byte }
 {
     match dialect {
@@ -59,7 +59,7 @@ pub(crate) fn is_name_quote(dialect: Dialect, byte: u8) -> bool
     }
 }
 
-pub(crate) fn escapes(dialect: Dialect) -> bool
+pub fn escapes(dialect: Dialect) -> bool
     ensures { result ≡ escapes dialect }
 {
     match dialect {
@@ -68,7 +68,7 @@ pub(crate) fn escapes(dialect: Dialect) -> bool
     }
 }
 
-pub(crate) fn nests(dialect: Dialect) -> bool
+pub fn nests(dialect: Dialect) -> bool
     ensures { result ≡ nests dialect }
 {
     match dialect {
