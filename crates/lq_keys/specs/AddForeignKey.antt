@@ -9,9 +9,10 @@ use Rattle.lq_base.specs.Number.{if_there}
 use Rattle.lq_base.specs.declared.dialect.Dialect.{Dialect}
 use Rattle.lq_base.specs.declared.name.Name.{Name}
 use Rattle.lq_base.specs.declared.reason.Reason.{Reason}
+use Rattle.lq_drops.specs.Drops.{drops_foreign}
 use Rattle.lq_keys.specs.DropsLaws.{foreign_back, foreign_spelled}
 use Rattle.lq_keys.specs.NamedLaws.{listed}
-use Rattle.lq_keys.specs.OnDelete.{an_on_delete, cascades, drops_foreign, words}
+use Rattle.lq_keys.specs.OnDelete.{an_on_delete, cascades, words}
 use Rattle.lq_keys.specs.OnDeleteLaws.{on_delete_told}
 use Rattle.lq_keys.specs.declared.add_foreign_key.AddForeignKeyConstraint.{AddForeignKeyConstraint}
 use Rattle.lq_model.proofs.Effects.{does_so, one_becomes, restores_so, some_same}

@@ -9,10 +9,11 @@ use Rattle.lq_base.specs.Number.{if_there}
 use Rattle.lq_base.specs.declared.dialect.Dialect.{Dialect}
 use Rattle.lq_base.specs.declared.name.Name.{Name}
 use Rattle.lq_base.specs.declared.reason.Reason.{Reason}
+use Rattle.lq_drops.specs.Drops.{drops_index}
 use Rattle.lq_keys.specs.DropsLaws.{index_back, index_spelled}
 use Rattle.lq_keys.specs.NamedLaws.{named}
 use Rattle.lq_keys.specs.OnDelete as column
-use Rattle.lq_keys.specs.OnDelete.{drops_index, index_column, is_column, names_of}
+use Rattle.lq_keys.specs.OnDelete.{index_column, is_column, names_of}
 use Rattle.lq_keys.specs.declared.create_index.CreateIndex.{CreateIndex}
 use Rattle.lq_keys.specs.declared.index_column.IndexColumn.{IndexColumn}
 use Rattle.lq_model.proofs.DefaultNames.{default_named}

@@ -6,7 +6,8 @@ use Rattle.lq_base.specs.declared.dialect.Dialect.{Dialect}
 use Rattle.lq_base.specs.declared.name.Name.{Name}
 use Rattle.lq_base.specs.declared.reason.Reason.{Reason}
 use Rattle.lq_keys.specs.DropsLaws.{foreign_becomes, foreign_spelled}
-use Rattle.lq_keys.specs.OnDelete.{drops_foreign, foreign_dropped}
+use Rattle.lq_drops.specs.Drops.{drops_foreign}
+use Rattle.lq_keys.specs.OnDelete.{foreign_dropped}
 use Rattle.lq_keys.specs.declared.drop_foreign_key.DropForeignKeyConstraint.{DropForeignKeyConstraint}
 use Rattle.lq_model.proofs.Effects.{does_so, restores_so}
 use Rattle.lq_model.proofs.Lists.{and_left, and_right, and_true}

@@ -6,7 +6,8 @@ use Rattle.lq_base.specs.declared.dialect.Dialect.{Dialect}
 use Rattle.lq_base.specs.declared.name.Name.{Name}
 use Rattle.lq_base.specs.declared.reason.Reason.{Reason}
 use Rattle.lq_keys.specs.DropsLaws.{index_becomes, index_spelled}
-use Rattle.lq_keys.specs.OnDelete.{drops_index, index_dropped}
+use Rattle.lq_drops.specs.Drops.{drops_index}
+use Rattle.lq_keys.specs.OnDelete.{index_dropped}
 use Rattle.lq_keys.specs.declared.drop_index.DropIndex.{DropIndex}
 use Rattle.lq_model.proofs.Effects.{does_so, restores_so}
 use Rattle.lq_model.proofs.Lists.{and_left, and_right, and_true}

@@ -5,7 +5,8 @@ use Rattle.lq_base.specs.Name.{beside, is_name, is_name_key, is_object}
 use Rattle.lq_base.specs.declared.dialect.Dialect.{Dialect}
 use Rattle.lq_base.specs.declared.dialect.Dialect.TheVariants.{Mysql, Postgresql}
 use Rattle.lq_base.specs.declared.name.Name.{Name}
-use Rattle.lq_keys.specs.OnDelete.{drops_foreign, drops_index, foreign_dropped, index_dropped}
+use Rattle.lq_drops.specs.Drops.{drops_foreign, drops_index}
+use Rattle.lq_keys.specs.OnDelete.{foreign_dropped, index_dropped}
 use Rattle.lq_model.proofs.Effects.{one_back, one_becomes}
 use Rattle.lq_model.proofs.Lists.{and_true}
 use Rattle.lq_model.proofs.UndoConstraints.{drop_after_foreign_key}

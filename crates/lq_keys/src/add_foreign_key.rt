@@ -4,9 +4,9 @@ ghost use Rattle.lq_tree.specs.Look.{Reads, value_at};
 ghost use Rattle.lq_tree.specs.Keys.{known};
 ghost use Rattle.lq_keys.specs.AddForeignKey.{add_foreign_key, foreign_of, ignored, is_false, is_for, is_idle, is_true, key_names, or_remarks};
 
-use crate::drops::foreign_drop;
 use crate::on_delete::{OnDelete, cascades, on_delete_field};
 use lq_base::{Dialect, Duplicate, Items, KindFault, Name, NoMemory, both};
+use lq_drops::foreign_drop;
 use lq_model::{
     Canon, Change, Field, ForeignKey, Look, SqlText, Statement, Undo, schema_field, write_change,
 };

@@ -2,9 +2,9 @@ ghost use Rattle.std.specs.Prelude.{◌≡◌, IfOk, true};
 ghost use Rattle.lq_tree.specs.Look.{Reads};
 ghost use Rattle.lq_keys.specs.CreateIndex.{create_index, index_of, is_for, name_of};
 
-use crate::drops::index_drop;
 use crate::index_column::{IndexColumn, names_of};
 use lq_base::{Dialect, Duplicate, Items, KindFault, Name, NoMemory};
+use lq_drops::index_drop;
 use lq_model::{
     Canon, Change, Field, Fields, Index, Look, MapsAt, SqlText, Statement, Undo, index_name,
     name_field, schema_field, truth_field, write_change_of,

@@ -2,8 +2,8 @@ ghost use Rattle.std.specs.Prelude.{◌≡◌, IfOk, true};
 ghost use Rattle.lq_tree.specs.Look.{Reads};
 ghost use Rattle.lq_keys.specs.DropForeignKey.{is_for, drop_foreign_key};
 
-use crate::drops::foreign_drop;
 use lq_base::{Dialect, Items, KindFault, Name, NoMemory};
+use lq_drops::foreign_drop;
 use lq_model::{Canon, Change, Field, Look, SqlText, Statement, Undo, schema_field, write_change};
 use lq_tree::{Node, catalogue, in_schema, known, required, schema};
 use std::alloc::Global;

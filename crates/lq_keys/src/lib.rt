@@ -5,7 +5,6 @@ mod add_foreign_key;
 mod create_index;
 mod drop_foreign_key;
 mod drop_index;
-mod drops;
 mod index_column;
 mod on_delete;
 

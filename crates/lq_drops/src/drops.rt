@@ -1,13 +1,12 @@
-//! What drops a foreign key or an index.
 ghost use Rattle.std.specs.Prelude.{◌≡◌, IfOk};
-ghost use Rattle.lq_keys.specs.OnDelete.{drops_foreign, drops_index};
+ghost use Rattle.lq_drops.specs.Drops.{drops_foreign, drops_index};
 
 use lq_base::{Dialect, Duplicate, Name, NoMemory, both, placed};
 use lq_model::Statement;
 use std::alloc::Global;
 
 /// Drops the foreign key of this name.
-pub(crate) fn foreign_drop(
+pub fn foreign_drop(
     alloc: Global,
     dialect: Dialect,
     table: &Name,
@@ -24,7 +23,7 @@ pub(crate) fn foreign_drop(
 
 /// Drops the index of this name on this table: under PostgreSQL by its name in the table's schema,
 /// under MySQL with the table.
-pub(crate) fn index_drop(
+pub fn index_drop(
     alloc: Global,
     dialect: Dialect,
     name: &Name,
