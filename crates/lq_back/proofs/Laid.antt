@@ -4,9 +4,10 @@ use Rattle.std.proofs.lemmas.List.{append-nil, append_assoc}
 use Rattle.std.specs.Prelude.{reverse}
 use Rattle.lq_base.specs.declared.dialect.Dialect.{Dialect}
 use Rattle.lq_base.specs.declared.tracking.Tracked.{Tracked}
-use Rattle.lq_hand.proofs.Laying.{then_lays}
+use Rattle.lq_laying.proofs.Laying.{then_lays}
 use Rattle.lq_hand.specs.Way.{IsTurn}
-use Rattle.lq_hand.specs.Hand.{AreTurns, Lays}
+use Rattle.lq_hand.specs.Hand.{AreTurns}
+use Rattle.lq_laying.specs.Laying.{Lays}
 use Rattle.lq_hand.specs.declared.hand.Phase.TheVariants.{Inside}
 use Rattle.lq_back.proofs.Ways.{map_behind}
 use Rattle.lq_back.specs.Reversal.{AreDated, insert_call, sync_calls}

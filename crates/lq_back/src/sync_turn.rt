@@ -1,6 +1,7 @@
 ghost use Rattle.std.specs.Prelude.{◌≡◌, ◌++◌, ◌∷◌, [], IfOk, None, OnOk, false, map, reverse};
 ghost use Rattle.lq_hand.specs.Way.{IsTurn};
-ghost use Rattle.lq_hand.specs.Hand.{calls_left, Lays};
+ghost use Rattle.lq_hand.specs.Hand.{calls_left};
+ghost use Rattle.lq_laying.specs.Laying.{Lays};
 ghost use Rattle.lq_back.specs.Reversal.{AreDated, insert_call, mark_of, sync_calls};
 ghost use Rattle.lq_turns.specs.Laws.{marked_by};
 ghost use Rattle.lq_turns.specs.declared.call.Call.TheVariants.{Begin, Commit};

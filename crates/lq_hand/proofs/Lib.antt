@@ -1,5 +1,4 @@
 pub mod WellTurned
-pub mod Laying
 pub mod InHand
 pub mod Counted
 pub mod Sighted

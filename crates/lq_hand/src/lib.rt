@@ -2,12 +2,9 @@
 #![tactic(auto)]
 
 mod hand;
-mod marking;
 mod progress;
 mod source;
-mod turn;
 
 pub use hand::{Hand, Phase};
 pub use progress::{Coming, Progress, next_coming};
 pub use source::{Entered, Source};
-pub use turn::turn_calls;

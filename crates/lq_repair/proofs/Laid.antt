@@ -11,8 +11,9 @@ use Rattle.lq_base.specs.Name.{beside, is_beside, is_name, is_name_key, is_named
 use Rattle.lq_base.specs.declared.identity.Identity.{Identity}
 use Rattle.lq_base.specs.declared.literal.Literal.TheVariants as literal
 use Rattle.lq_base.specs.declared.name.Name.{Name}
-use Rattle.lq_hand.proofs.Laying.{then_lays}
-use Rattle.lq_hand.specs.Hand.{AreTurns, Lays}
+use Rattle.lq_laying.proofs.Laying.{then_lays}
+use Rattle.lq_hand.specs.Hand.{AreTurns}
+use Rattle.lq_laying.specs.Laying.{Lays}
 use Rattle.lq_model.proofs.Lists.{and_left, and_right, and_true, named_itself, same_name}
 use Rattle.lq_model.specs.Kinds.{literal_of}
 use Rattle.lq_model.specs.Sound.{is_key_name}

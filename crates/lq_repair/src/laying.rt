@@ -1,6 +1,7 @@
 ghost use Rattle.std.specs.Prelude.{◌≡◌, ◌∷◌, [], IfOk, OnOk, Some, false, true};
 ghost use Rattle.laws_repair.specs.Repair.{back_calls, marked_text};
-ghost use Rattle.lq_hand.specs.Hand.{AreTurns, calls_left, Lays};
+ghost use Rattle.lq_hand.specs.Hand.{AreTurns, calls_left};
+ghost use Rattle.lq_laying.specs.Laying.{Lays};
 ghost use Rattle.lq_hand.specs.declared.hand.Phase.TheVariants.{Inside};
 ghost use Rattle.lq_model.specs.Step.{is_statement};
 ghost use Rattle.lq_reverse.specs.Back.{back};

@@ -1,5 +1,5 @@
 use Rattle.std.proofs.Common.{rules}
-use Rattle.lq_hand.proofs.Laying.{pushed}
+use Rattle.lq_laying.proofs.Laying.{pushed}
 use Rattle.lq_repair.proofs.laying.push.Goals as goal
 
 pub returns-in_err-push : goal.returns-in_err-push

@@ -1,7 +1,7 @@
 use Rattle.std.proofs.Common.{rules, subst}
 use Rattle.std.specs.Prelude.{OnOk}
 use Rattle.laws_repair.specs.Repair.{back_calls}
-use Rattle.lq_hand.specs.Hand.{Lays}
+use Rattle.lq_laying.specs.Laying.{Lays}
 use Rattle.lq_repair.proofs.laying.push_back.Goals as goal
 
 pub returns-in_err-undoing : goal.returns-in_err-undoing
