@@ -13,6 +13,7 @@ use lq_model::{By, Statement};
 use lq_parts::{Parts, RunFault};
 use lq_restored::restored;
 use lq_state::State as PlainState;
+use lq_tried::keep_or_undo;
 use std::alloc::Global;
 use std::marker::Model;
 
@@ -112,15 +113,13 @@ impl Engine {
     {
         self.starts.reserve(1)?;
         let mark = self.parts.mark();
-        match carry_out(self.alloc, &mut self.parts, self.dialect, by, statement) {
+        let outcome = carry_out(self.alloc, &mut self.parts, self.dialect, by, statement);
+        match keep_or_undo(&mut self.parts, mark, outcome) {
             Ok(count) => {
                 self.starts.push_reserved(mark);
                 Ok(count)
             }
-            Err(fault) => {
-                self.parts.undo_to(mark);
-                Err(fault)
-            }
+            Err(fault) => Err(fault),
         }
     }
 
