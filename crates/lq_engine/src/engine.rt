@@ -11,7 +11,7 @@ use crate::fault::PartsFault;
 use lq_base::Dialect;
 use lq_model::{By, Statement};
 use lq_parts::{Parts, RunFault};
-use lq_restored::restored;
+use lq_soundly::restored;
 use lq_state::State as PlainState;
 use lq_tried::keep_or_undo;
 use std::alloc::Global;

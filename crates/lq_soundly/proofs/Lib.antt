@@ -1,3 +1,4 @@
 mod OrderLemmas
+mod SoundLemmas
 mod TestedLemmas
 mod ViewLemmas

@@ -1,9 +1,6 @@
 -- The pieces of the test of a catalogue, each over what the code has in hand.
 use Rattle.std.specs.List.{list_all}
-use Rattle.std.specs.Ordering.{is_lt}
-use Rattle.std.specs.Prelude.{Bool, List, [], map, not, true, ◌&&◌, ◌∷◌}
-use Rattle.lq_base.specs.Name.{name_cmp}
-use Rattle.lq_base.specs.declared.name.Name.{Name}
+use Rattle.std.specs.Prelude.{Bool, List, map, not, ◌&&◌}
 use Rattle.lq_model.specs.Catalogue.{Catalogue, View, is_in, same_names, the_table}
 use Rattle.lq_model.specs.Comparison.{compares_wrongly, is_spelled}
 use Rattle.lq_model.specs.Kinds.{kind_of, same_kinds}
@@ -12,11 +9,6 @@ use Rattle.lq_model.specs.Truth.{names_in}
 use Rattle.lq_model.specs.declared.column.Column.{Column}
 use Rattle.lq_model.specs.declared.constraint.ForeignKey.{ForeignKey}
 use Rattle.lq_sound_table.specs.Pieces.{are_some_of, names_of}
-
--- the first entry, if there is one, stands above the name
-abbrev pub begins_above : {X : Type 0} → Name → List (Name × X) → Bool
-begins_above n [] = true
-begins_above n (e ∷ es) = is_lt (name_cmp n e.0)
 
 -- a foreign key of a table of these columns and its targets differ in number or kinds
 abbrev pub differs_from : Catalogue → List Column → ForeignKey → Bool

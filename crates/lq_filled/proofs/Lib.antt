@@ -1,0 +1,4 @@
+mod Behind
+mod OrderLemmas
+mod RowLemmas
+mod WholeLemmas

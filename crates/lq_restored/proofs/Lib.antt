@@ -1,4 +1,0 @@
-mod Behind
-mod RowLemmas
-mod SoundLemmas
-mod WholeLemmas
