@@ -1,3 +1,1 @@
-mod Dates
-mod Whole
 mod Wider

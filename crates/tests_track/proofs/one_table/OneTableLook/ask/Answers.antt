@@ -1,8 +1,8 @@
 use Rattle.std.proofs.Common.{[], sym, ◌∙◌}
 use Rattle.lq_base.specs.Name.{is_named}
 use Rattle.lq_model.proofs.Lists.{not_false}
-use Rattle.tests_disk.proofs.Whole.{asked_whole}
-use Rattle.tests_disk.proofs.one_table.OneTableLook.ask.Goals as goal
+use Rattle.tests_track.proofs.Whole.{asked_whole}
+use Rattle.tests_track.proofs.one_table.OneTableLook.ask.Goals as goal
 
 pub returns-in-Ok : goal.returns-in-Ok
 returns-in-Ok c =

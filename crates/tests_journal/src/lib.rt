@@ -1,0 +1,7 @@
+//! Tests of the journal on a disk.
+#![tactic(auto)]
+
+#[cfg(test)]
+mod journal;
+#[cfg(test)]
+mod lengths;
