@@ -3,9 +3,9 @@ use Rattle.std.specs.Prelude.{List, None, Ok, Option, Some, [], ◌≡◌}
 use Rattle.laws_partial.proofs.AddColumn as add_column
 use Rattle.laws_partial.proofs.AddNotNull as add_not_null
 use Rattle.laws_partial.proofs.Singles as singles
-use Rattle.lq_kinds.specs.AnyChange.{gives, inverse, is_for, is_fresh}
-use Rattle.lq_kinds.specs.declared.any_change.AnyChange.{AnyChange}
-use Rattle.lq_kinds.specs.declared.any_change.AnyChange.TheVariants.{AddColumn, AddDefaultValue, AddForeignKeyConstraint, AddNotNullConstraint, AddPrimaryKey, AddUniqueConstraint, CreateIndex, CreateSequence, CreateTable, CreateView, Delete, DropColumn, DropDefaultValue, DropForeignKeyConstraint, DropIndex, DropNotNullConstraint, DropPrimaryKey, DropSequence, DropTable, DropUniqueConstraint, DropView, Empty, Insert, LoadData, RenameColumn, RenameSequence, RenameTable, RenameView, Sql, TagDatabase, Update}
+use Rattle.lq_any.specs.AnyChange.{gives, inverse, is_for, is_fresh}
+use Rattle.lq_any.specs.declared.any_change.AnyChange.{AnyChange}
+use Rattle.lq_any.specs.declared.any_change.AnyChange.TheVariants.{AddColumn, AddDefaultValue, AddForeignKeyConstraint, AddNotNullConstraint, AddPrimaryKey, AddUniqueConstraint, CreateIndex, CreateSequence, CreateTable, CreateView, Delete, DropColumn, DropDefaultValue, DropForeignKeyConstraint, DropIndex, DropNotNullConstraint, DropPrimaryKey, DropSequence, DropTable, DropUniqueConstraint, DropView, Empty, Insert, LoadData, RenameColumn, RenameSequence, RenameTable, RenameView, Sql, TagDatabase, Update}
 use Rattle.lq_model.specs.declared.statement.Statement.{Statement}
 use Rattle.lq_reverse.proofs.Parts.{no_part}
 use Rattle.lq_reverse.specs.Back.{PartsBack}

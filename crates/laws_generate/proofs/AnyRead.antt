@@ -11,8 +11,8 @@ use Rattle.lq_keys.specs.declared.add_foreign_key.AddForeignKeyConstraint.{AddFo
 use Rattle.lq_primary_keys.specs.declared.add_primary_key.AddPrimaryKey.{AddPrimaryKey}
 use Rattle.lq_uniques.specs.declared.add_unique.AddUniqueConstraint.{AddUniqueConstraint}
 use Rattle.lq_keys.specs.declared.create_index.CreateIndex.{CreateIndex}
-use Rattle.lq_kinds.specs.AnyChange.{any_change, at_only, named, named_key, named_other}
-use Rattle.lq_kinds.specs.declared.any_change.AnyChange.TheVariants as any
+use Rattle.lq_any.specs.AnyChange.{any_change, at_only, named, named_key, named_other}
+use Rattle.lq_any.specs.declared.any_change.AnyChange.TheVariants as any
 use Rattle.lq_tables.specs.CreateTable.{create_table}
 use Rattle.lq_tables.specs.declared.create_table.CreateTable.{CreateTable}
 use Rattle.lq_tree.specs.Look.{map_found, within}

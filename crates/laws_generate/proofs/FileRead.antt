@@ -7,10 +7,10 @@ use Rattle.lq_base.specs.declared.run.OnFail.TheVariants.{Halt}
 use Rattle.lq_changelog.specs.Gathers.{changelog, changelog_of, nothing, Contents, gathers, meaning, set_in, tree_set}
 use Rattle.lq_cond.specs.declared.cond.Cond.TheVariants.{And}
 use Rattle.lq_contents.specs.Trees.{file_tree}
-use Rattle.lq_kinds.specs.AnyChange.{any_change}
+use Rattle.lq_any.specs.AnyChange.{any_change}
 use Rattle.lq_kinds.specs.ChangeSets.{set_of, is_label}
 use Rattle.lq_kinds.specs.Changes.{is_tagging, changes_from}
-use Rattle.lq_kinds.specs.declared.any_change.AnyChange.{AnyChange}
+use Rattle.lq_any.specs.declared.any_change.AnyChange.{AnyChange}
 use Rattle.lq_kinds.specs.declared.change_set.ChangeSet.{ChangeSet}
 use Rattle.lq_kinds.specs.declared.change_set.Changelog.{Changelog}
 use Rattle.lq_sources.specs.Faults.{Loaded, ◌>>=◌}

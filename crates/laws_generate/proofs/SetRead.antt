@@ -5,7 +5,7 @@ use Rattle.std.specs.Prelude.{Bool, List, None, Ok, Option, Some, [], codes, fal
 use Rattle.lq_base.specs.declared.dialect.Dialect.{Dialect}
 use Rattle.lq_kinds.specs.ChangeSets.{heading, notes, only_known, path_at, running, selection, set_of, set_with, context_at, a_label, is_label}
 use Rattle.lq_kinds.specs.Changes.{changes_at, changes_of, here_at, is_read, is_tagging, rollback_at, changes_from}
-use Rattle.lq_kinds.specs.declared.any_change.AnyChange.{AnyChange}
+use Rattle.lq_any.specs.declared.any_change.AnyChange.{AnyChange}
 use Rattle.lq_tree.specs.declared.node.Node.{Node, Text as TextNode}
 use Rattle.lq_generate.specs.Generated.{set_rows}
 use Rattle.lq_generate.specs.Types.{map_node}

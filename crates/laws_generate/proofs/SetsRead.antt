@@ -8,9 +8,9 @@ use Rattle.lq_base.specs.Name.{is_name, is_object}
 use Rattle.lq_base.specs.declared.dialect.Dialect.{Dialect}
 use Rattle.lq_base.specs.declared.dialect.Dialect.TheVariants.{Mysql, Postgresql}
 use Rattle.lq_base.specs.declared.name.Name.{Name}
-use Rattle.lq_kinds.specs.AnyChange.{any_change}
+use Rattle.lq_any.specs.AnyChange.{any_change}
 use Rattle.lq_kinds.specs.Changes.{is_tagging, changes_from, load_of}
-use Rattle.lq_kinds.specs.declared.any_change.AnyChange.{AnyChange}
+use Rattle.lq_any.specs.declared.any_change.AnyChange.{AnyChange}
 use Rattle.lq_model.specs.Catalogue.{Catalogue, Sequence, Table, View}
 use Rattle.lq_model.specs.SqlText.{query_in}
 use Rattle.lq_model.specs.TestText.{query_text}
@@ -34,7 +34,7 @@ use Rattle.laws_generate.proofs.CreatedRead.{Fits, created_read, items_are}
 use Rattle.std.specs.Str.{bytes_eq}
 use Rattle.lq_kinds.specs.ChangeSets.{is_label}
 use Rattle.laws_generate.proofs.NodesRead.{map_is}
-use Rattle.lq_kinds.specs.declared.any_change.AnyChange.TheVariants as any
+use Rattle.lq_any.specs.declared.any_change.AnyChange.TheVariants as any
 use Rattle.laws_made.proofs.Effects.{both_of}
 use Rattle.laws_generate.proofs.FileRead.{IsMade, Made}
 

@@ -11,7 +11,7 @@ use Rattle.lq_cond.specs.declared.cond.Cond.{the_lemmas}
 use Rattle.lq_cond.specs.declared.cond.Cond.TheVariants.{And}
 use Rattle.lq_expr.specs.declared.expr.Expr.{Expr}
 use Rattle.lq_expr.specs.declared.options.Options.{Options}
-use Rattle.lq_kinds.specs.declared.any_change.AnyChange.{AnyChange}
+use Rattle.lq_any.specs.declared.any_change.AnyChange.{AnyChange}
 use Rattle.lq_model.specs.Catalogue.{Catalogue}
 use Rattle.lq_seen.specs.View.{is_met, is_selected, any_meaning, view}
 use Rattle.lq_turns.specs.Deed.{Contents, rows_after}

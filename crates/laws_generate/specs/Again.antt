@@ -15,7 +15,7 @@ use Rattle.lq_generate.specs.Generated.{generated_tree}
 use Rattle.lq_generate.specs.Types.{Row}
 use Rattle.lq_jsontext.specs.JsonText.{IsWritable}
 use Rattle.lq_kinds.specs.ChangeSets.{is_label, old_sum_of, sum_of}
-use Rattle.lq_kinds.specs.declared.any_change.AnyChange.{AnyChange}
+use Rattle.lq_any.specs.declared.any_change.AnyChange.{AnyChange}
 use Rattle.lq_kinds.specs.declared.change_set.ChangeSet.{ChangeSet}
 use Rattle.lq_kinds.specs.declared.change_set.Changelog.{Changelog}
 use Rattle.lq_model.specs.Catalogue.{Catalogue, no_objects}

@@ -6,8 +6,8 @@ use Rattle.lq_base.specs.Name.{is_named}
 use Rattle.lq_base.specs.declared.dialect.Dialect.{Dialect}
 use Rattle.lq_base.specs.declared.name.Name.{Name}
 use Rattle.lq_base.specs.declared.reason.Reason.{Reason}
-use Rattle.lq_kinds.specs.AnyChange.{effect, gives, is_fresh}
-use Rattle.lq_kinds.specs.declared.any_change.AnyChange.{AnyChange}
+use Rattle.lq_any.specs.AnyChange.{effect, gives, is_fresh}
+use Rattle.lq_any.specs.declared.any_change.AnyChange.{AnyChange}
 use Rattle.lq_model.proofs.Lists.{and_left, and_right, and_true}
 use Rattle.lq_model.specs.Catalogue.{Catalogue, Table, no_objects, the_table, is_in, key_list}
 use Rattle.lq_model.specs.Sound.{IsSound, IsSoundTable, is_not_null}

@@ -9,8 +9,8 @@ use Rattle.lq_base.specs.declared.name.Name.{Name}
 use Rattle.lq_primary_keys.specs.AddPrimaryKey.{key_of}
 use Rattle.lq_keys.specs.CreateIndex.{index_of}
 use Rattle.lq_keys.specs.OnDelete.{names_of, cascades}
-use Rattle.lq_kinds.specs.AnyChange.{gives}
-use Rattle.lq_kinds.specs.declared.any_change.AnyChange.{AnyChange}
+use Rattle.lq_any.specs.AnyChange.{gives}
+use Rattle.lq_any.specs.declared.any_change.AnyChange.{AnyChange}
 use Rattle.lq_model.proofs.Lists.{and_left, same_name}
 use Rattle.lq_model.specs.Catalogue.{Catalogue, Sequence, Table, View, no_objects, table_of, key_list}
 use Rattle.lq_model.specs.Sound.{key_name, IsSound, IsSoundTable, is_key_name, primary}

@@ -12,8 +12,8 @@ use Rattle.lq_keys.specs.declared.create_index.CreateIndex.{CreateIndex}
 use Rattle.lq_keys.specs.declared.index_column.IndexColumn.{IndexColumn}
 use Rattle.lq_keys.specs.declared.on_delete.OnDelete.{OnDelete}
 use Rattle.lq_keys.specs.declared.on_delete.OnDelete.TheVariants as deletion
-use Rattle.lq_kinds.specs.declared.any_change.AnyChange.{AnyChange}
-use Rattle.lq_kinds.specs.declared.any_change.AnyChange.TheVariants as any
+use Rattle.lq_any.specs.declared.any_change.AnyChange.{AnyChange}
+use Rattle.lq_any.specs.declared.any_change.AnyChange.TheVariants as any
 use Rattle.lq_model.specs.Catalogue.{Catalogue, Sequence, Table, View}
 use Rattle.lq_model.specs.TestText.{query_text}
 use Rattle.lq_model.specs.declared.column.Column.{Column}

@@ -16,8 +16,8 @@ use Rattle.lq_beside.proofs.UpdateFits.{update_fits}
 use Rattle.lq_beside.specs.Replays.{HasTexts, IsTime, calls_fit}
 use Rattle.lq_db.specs.Db.{last_text}
 use Rattle.lq_expr.specs.declared.options.Options.{Options}
-use Rattle.lq_kinds.specs.AnyChange.{gives, inverse, is_for, is_fresh}
-use Rattle.lq_kinds.specs.declared.any_change.AnyChange.{AnyChange}
+use Rattle.lq_any.specs.AnyChange.{gives, inverse, is_for, is_fresh}
+use Rattle.lq_any.specs.declared.any_change.AnyChange.{AnyChange}
 use Rattle.lq_kinds.specs.declared.change_set.Changelog.{Changelog}
 use Rattle.lq_mending.proofs.Fitting.{repair_fits}
 use Rattle.lq_mending.proofs.Marking.{calls_repair}

@@ -22,9 +22,9 @@ use Rattle.lq_beside.proofs.UpdateFits.{update_fits}
 use Rattle.lq_beside.specs.Replays.{calls_fit}
 use Rattle.lq_db.specs.Db.{last_text}
 use Rattle.lq_expr.specs.declared.options.Options.{Options}
-use Rattle.lq_kinds.specs.AnyChange.{gives, inverse, is_for, is_fresh}
-use Rattle.lq_kinds.specs.AnyChangeLaws.{does, restores, spelled}
-use Rattle.lq_kinds.specs.declared.any_change.AnyChange.{AnyChange}
+use Rattle.lq_any.specs.AnyChange.{gives, inverse, is_for, is_fresh}
+use Rattle.lq_any.specs.AnyChangeLaws.{does, restores, spelled}
+use Rattle.lq_any.specs.declared.any_change.AnyChange.{AnyChange}
 use Rattle.lq_kinds.specs.declared.change_set.Changelog.{Changelog}
 use Rattle.lq_mending.proofs.Fitting.{repair_fits}
 use Rattle.lq_mending.proofs.Marking.{undo_leaves}

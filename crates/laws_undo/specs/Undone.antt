@@ -9,7 +9,7 @@ use Rattle.lq_base.specs.declared.tracking.Tracked.{Tracked}
 use Rattle.lq_beside.specs.Replays.{HasTexts, IsTime}
 use Rattle.lq_db.specs.Db.{last_text}
 use Rattle.lq_expr.specs.declared.options.Options.{Options}
-use Rattle.lq_kinds.specs.declared.any_change.AnyChange.{AnyChange}
+use Rattle.lq_any.specs.declared.any_change.AnyChange.{AnyChange}
 use Rattle.lq_kinds.specs.declared.change_set.Changelog.{Changelog}
 use Rattle.lq_mending.specs.Comes.{back_refused}
 use Rattle.lq_mending.specs.Undoes.{Standing, first_of, made_in, refusal, sets_in, undo_script, unrecorded}

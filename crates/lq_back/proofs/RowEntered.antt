@@ -13,8 +13,8 @@ use Rattle.lq_hand.specs.Way.{no_progress, Enters, IsTurn, GivesUp, refusal_at_e
 use Rattle.lq_hand.specs.Hand.{calls_left, hand_place, place_of, IsWritable}
 use Rattle.lq_hand.specs.declared.hand.Hand.{Hand}
 use Rattle.lq_hand.specs.declared.source.Entered.TheVariants.{Lack, NoTurn, Turn as InHand}
-use Rattle.lq_kinds.specs.AnyChangeLaws.{does, restores, spelled}
-use Rattle.lq_kinds.specs.declared.any_change.AnyChange.{AnyChange}
+use Rattle.lq_any.specs.AnyChangeLaws.{does, restores, spelled}
+use Rattle.lq_any.specs.declared.any_change.AnyChange.{AnyChange}
 use Rattle.lq_model.proofs.Lists.{and_left, and_right}
 use Rattle.lq_model.specs.Catalogue.{Catalogue}
 use Rattle.lq_model.specs.Step.{is_statement}

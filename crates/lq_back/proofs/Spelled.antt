@@ -5,9 +5,10 @@ use Rattle.std.specs.Prelude.{option_and_then}
 use Rattle.lq_base.specs.declared.dialect.Dialect.{Dialect}
 use Rattle.lq_base.specs.declared.tracking.Tracked.{Tracked}
 use Rattle.lq_expr.specs.declared.options.Options.{Options}
-use Rattle.lq_kinds.specs.AnyChange.{inverse, is_for, is_block_for, is_read_for}
-use Rattle.lq_kinds.specs.AnyChangeLaws.{returned}
-use Rattle.lq_kinds.specs.declared.any_change.AnyChange.{AnyChange}
+use Rattle.lq_any.specs.AnyChange.{inverse, is_for}
+use Rattle.lq_kinds.specs.ReadFor.{is_block_for, is_read_for}
+use Rattle.lq_any.specs.AnyChangeLaws.{returned}
+use Rattle.lq_any.specs.declared.any_change.AnyChange.{AnyChange}
 use Rattle.lq_kinds.specs.declared.change_set.ChangeSet.{ChangeSet}
 use Rattle.lq_model.proofs.Lists.{all-append, and_left, and_right, and_true}
 use Rattle.lq_model.specs.Step.{is_statement}

@@ -12,7 +12,7 @@ use Rattle.lq_base.specs.declared.identity.Identity.{Identity}
 use Rattle.lq_base.specs.declared.tracking.Exec.TheVariants.{Executed}
 use Rattle.lq_base.specs.declared.tracking.Tracked.{Tracked}
 use Rattle.lq_expr.specs.declared.options.Options.{Options}
-use Rattle.lq_kinds.specs.declared.any_change.AnyChange.{AnyChange}
+use Rattle.lq_any.specs.declared.any_change.AnyChange.{AnyChange}
 use Rattle.lq_kinds.specs.declared.change_set.ChangeSet.{ChangeSet}
 use Rattle.lq_model.proofs.Lists.{any-append}
 use Rattle.lq_plan.proofs.Indexed.{all_equal, its_key}

@@ -3,21 +3,21 @@ use Rattle.std.proofs.Common.{ap, arith, sym, refl, ◌≡◌, ◌∙◌, ◌+�
 use Rattle.std.proofs.lemmas.List.{append_assoc, reverse-append}
 use Rattle.std.specs.List.{list_all, slice_get}
 use Rattle.std.specs.Option.{unwrap_or}
-use Rattle.std.specs.Prelude.{Err, option_and_then, reverse, ◌&&◌, ◌||◌}
+use Rattle.std.specs.Prelude.{Err, if◌then◌else◌, option_and_then, reverse, ◌&&◌, ◌||◌}
 use Rattle.lq_base.specs.declared.dialect.Dialect.{Dialect}
 use Rattle.lq_base.specs.declared.identity.Identity.{Identity}
 use Rattle.lq_base.specs.declared.tracking.Tracked.{Tracked}
 use Rattle.lq_expr.specs.declared.options.Options.{Options}
-use Rattle.lq_kinds.specs.AnyChange.{inverse}
-use Rattle.lq_kinds.specs.declared.any_change.AnyChange.{AnyChange}
-use Rattle.lq_kinds.specs.declared.any_change.AnyChange.TheVariants.{DropTable}
+use Rattle.lq_any.specs.AnyChange.{inverse}
+use Rattle.lq_any.specs.declared.any_change.AnyChange.{AnyChange}
+use Rattle.lq_any.specs.declared.any_change.AnyChange.TheVariants.{DropTable}
 use Rattle.lq_kinds.specs.declared.change_set.ChangeSet.{ChangeSet}
 use Rattle.lq_back.proofs.Indexed.{one}
 use Rattle.lq_back.specs.Laws.{PlacesAreKnown}
-use Rattle.lq_back.specs.Reversal.{IsRefusal, IsReversed, by_place, found_at, found_from, has_inverse, is_its, is_undoable, taken_back}
+use Rattle.lq_back.specs.Reversal.{IsRefusal, IsReversed, found_at, found_from, has_inverse, is_its, is_undoable, taken_back, undoable_place}
 use Rattle.lq_seen.specs.View.{any_meaning, view, views}
-use Rattle.lq_back.specs.declared.reversal.TakenBack.{TakenBack}
-use Rattle.lq_back.specs.declared.reversal.TakenBack.TheVariants.{Alone, By}
+use Rattle.lq_kept.specs.declared.way.TakenBack.{TakenBack}
+use Rattle.lq_kept.specs.declared.way.TakenBack.TheVariants.{Alone, By}
 use Rattle.lq_back.specs.declared.reverse_fault.ReverseFault.{ReverseFault}
 use Rattle.lq_back.specs.declared.reverse_fault.ReverseFault.TheVariants.{Not, OutOfMemory}
 use Rattle.lq_track.specs.Log.{identity_of}
@@ -84,23 +84,39 @@ none_of : {A B : Type 0} (p : Option A) (f : A → B) → not (is_some p) ≡ is
 none_of None f = refl
 none_of (Some x) f = refl
 
-none_if : (b : Bool) (n : ℕ) → is_none (cond b (Some (By n)) None) ≡ not b
+abbrev pub by : Option ℕ → Option TakenBack
+by place = option_map (λ n. By n) place
+
+none_if : (b : Bool) (n : ℕ) → is_none (by (cond b (Some n) None)) ≡ not b
 none_if true n = refl
 none_if false n = refl
 
 module _ (o : Options) (xs : List ChangeSet) (row : Tracked) where
-  pub none_lost : is_mark_ran row.exec ≡ false → None ≡ found_at (identity_of row) xs → true ≡ is_none (undo_turn o.dialect any_meaning (views o xs) row)
+  none_lost : is_mark_ran row.exec ≡ false → None ≡ found_at (identity_of row) xs → true ≡ is_none (undo_turn o.dialect any_meaning (views o xs) row)
   none_lost unmarked lost = rw (unmarked, set_found o 0 (identity_of row) xs, ← lost) refl
 
-  pub none_found : (way : Option TakenBack) (n : ℕ) (x : ChangeSet) → way ≡ cond (is_undoable x) (Some (By n)) None → is_mark_ran row.exec ≡ false → one n x ≡ found_at (identity_of row) xs → is_none way ≡ is_none (undo_turn o.dialect any_meaning (views o xs) row)
-  none_found way n x is unmarked found =
-      ap is_none is ∙ (none_if (is_undoable x) n ∙ (ap not (undoable o x) ∙ rw (unmarked, set_found o 0 (identity_of row) xs, ← found) (none_of (undoing o.dialect any_meaning (view o x)) _)))
+  none_found : (n : ℕ) (x : ChangeSet) → is_mark_ran row.exec ≡ false → one n x ≡ found_at (identity_of row) xs → is_none (by (cond (is_undoable x) (Some n) None)) ≡ is_none (undo_turn o.dialect any_meaning (views o xs) row)
+  none_found n x unmarked found =
+      none_if (is_undoable x) n ∙ (ap not (undoable o x) ∙ rw (unmarked, set_found o 0 (identity_of row) xs, ← found) (none_of (undoing o.dialect any_meaning (view o x)) _))
 
-pub way_is : (xs : List ChangeSet) (row : Tracked) (way : Option TakenBack) (n : ℕ) (x : ChangeSet) → way ≡ cond (is_undoable x) (Some (By n)) None → is_mark_ran row.exec ≡ false → one n x ≡ found_at (identity_of row) xs → way ≡ taken_back xs row
-way_is xs row way n x is unmarked found = is ∙ (rw (unmarked, ← found) refl)
+  by_mark : (b : Bool) → is_mark_ran row.exec ≡ b → (found : Option (ℕ × ChangeSet)) → found ≡ found_at (identity_of row) xs
+      → is_none (cond b (Some Alone) (by (option_and_then undoable_place found))) ≡ is_none (undo_turn o.dialect any_meaning (views o xs) row)
+  by_mark true marked found at = rw marked refl
+  by_mark false unmarked None at = none_lost unmarked at
+  by_mark false unmarked (Some f) at = none_found f.0 f.1 unmarked at
 
-pub way_lost : (xs : List ChangeSet) (row : Tracked) → is_mark_ran row.exec ≡ false → None ≡ found_at (identity_of row) xs → None ≡ taken_back xs row
-way_lost xs row unmarked lost = rw (unmarked, ← lost) refl
+  -- nothing takes the row back exactly where it has no way
+  pub none_way : is_none (taken_back xs row) ≡ is_none (undo_turn o.dialect any_meaning (views o xs) row)
+  none_way = by_mark (is_mark_ran row.exec) refl (found_at (identity_of row) xs) refl
+
+pub way_is : (xs : List ChangeSet) (row : Tracked) (way : Option TakenBack) (place : Option ℕ) → way ≡ (if is_mark_ran row.exec then Some Alone else by place) → place ≡ option_and_then undoable_place (found_at (identity_of row) xs) → way ≡ taken_back xs row
+way_is xs row way place is found = is ∙ ap (λ (p : Option ℕ). if is_mark_ran row.exec then Some Alone else by p) found
+
+pub no_place : (xs : List ChangeSet) (row : Tracked) → None ≡ found_at (identity_of row) xs → None ≡ option_and_then undoable_place (found_at (identity_of row) xs)
+no_place xs row lost = ap (λ (f : Option (ℕ × ChangeSet)). option_and_then undoable_place f) lost
+
+pub some_place : (xs : List ChangeSet) (row : Tracked) (n : ℕ) (x : ChangeSet) (place : Option ℕ) → place ≡ undoable_place (n, x) → one n x ≡ found_at (identity_of row) xs → place ≡ option_and_then undoable_place (found_at (identity_of row) xs)
+some_place xs row n x place is found = is ∙ ap (λ (f : Option (ℕ × ChangeSet)). option_and_then undoable_place f) found
 
 -- rows one after another, the last one first
 
@@ -151,7 +167,7 @@ pub record IsBy (xs : List ChangeSet) (row : Tracked) (x : ChangeSet) : Type 0 w
 abbrev pub AtPlace : List ChangeSet → Tracked → ℕ → Type 0
 AtPlace xs row n = (x : ChangeSet) × (slice_get xs n ≡ Some x) × IsBy xs row x
 
-by_found : (xs : List ChangeSet) (row : Tracked) (n : ℕ) (f : ℕ × ChangeSet) → is_mark_ran row.exec ≡ false → found_at (identity_of row) xs ≡ Some f → (b : Bool) → is_undoable f.1 ≡ b → cond b (Some (By f.0)) None ≡ Some (By n) → AtPlace xs row n
+by_found : (xs : List ChangeSet) (row : Tracked) (n : ℕ) (f : ℕ × ChangeSet) → is_mark_ran row.exec ≡ false → found_at (identity_of row) xs ≡ Some f → (b : Bool) → is_undoable f.1 ≡ b → by (cond b (Some f.0) None) ≡ Some (By n) → AtPlace xs row n
 by_found xs row n f unmarked at false not_so is = Prim.cc
 by_found xs row n f unmarked at true so is =
     let same : f.0 ≡ n = Prim.cc in
@@ -163,7 +179,7 @@ by_found xs row n f unmarked at true so is =
       record { undoable = so; unmarked = unmarked; known = λ o. set_found o 0 (identity_of row) xs ∙ ap (option_map (λ (g : ℕ × ChangeSet). view o g.1)) at },
     )
 
-by_way : (xs : List ChangeSet) (row : Tracked) (n : ℕ) (b : Bool) → is_mark_ran row.exec ≡ b → (found : Option (ℕ × ChangeSet)) → found_at (identity_of row) xs ≡ found → cond b (Some Alone) (option_and_then by_place found) ≡ Some (By n) → AtPlace xs row n
+by_way : (xs : List ChangeSet) (row : Tracked) (n : ℕ) (b : Bool) → is_mark_ran row.exec ≡ b → (found : Option (ℕ × ChangeSet)) → found_at (identity_of row) xs ≡ found → cond b (Some Alone) (by (option_and_then undoable_place found)) ≡ Some (By n) → AtPlace xs row n
 by_way xs row n true marked found at is = Prim.cc
 by_way xs row n false unmarked None at is = Prim.cc
 by_way xs row n false unmarked (Some f) at is = by_found xs row n f unmarked at (is_undoable f.1) refl is

@@ -2,11 +2,11 @@
 use Rattle.std.specs.List.{list_all, slice_get}
 use Rattle.std.specs.Prelude.{List, Some, false, true, ℕ, ◌≡◌}
 use Rattle.lq_back.specs.Reversal.{goes_back, taken_back}
-use Rattle.lq_back.specs.declared.reversal.TakenBack.TheVariants.{By}
+use Rattle.lq_kept.specs.declared.way.TakenBack.TheVariants.{By}
 use Rattle.lq_base.specs.declared.dialect.Dialect.{Dialect}
 use Rattle.lq_base.specs.declared.tracking.Tracked.{Tracked}
 use Rattle.lq_expr.specs.declared.options.Options.{Options}
-use Rattle.lq_kinds.specs.AnyChange.{AreFor}
+use Rattle.lq_kinds.specs.ReadFor.{AreFor}
 use Rattle.lq_kinds.specs.declared.change_set.ChangeSet.{ChangeSet}
 use Rattle.lq_kinds.specs.declared.change_set.Changelog.{Changelog}
 use Rattle.lq_seen.specs.View.{any_meaning, view, views}

@@ -3,8 +3,8 @@ use Rattle.std.specs.BTreeMap.{BTreeMap, get}
 use Rattle.std.specs.BTreeSet.{BTreeSet, contains}
 use Rattle.std.specs.List.{list_all}
 use Rattle.std.specs.Prelude.{Bool, Err, List, None, Ok, Option, Result, Some, [], false, if◌then◌else◌, is_some, map, not, option_and_then, option_map, reverse, suc, true, ℕ, ◌&&◌, ◌++◌, ◌||◌, ◌∷◌, ◌≡◌}
-use Rattle.lq_back.specs.declared.reversal.TakenBack.{TakenBack}
-use Rattle.lq_back.specs.declared.reversal.TakenBack.TheVariants.{Alone, By}
+use Rattle.lq_kept.specs.declared.way.TakenBack.{TakenBack}
+use Rattle.lq_kept.specs.declared.way.TakenBack.TheVariants.{Alone, By}
 use Rattle.lq_back.specs.declared.reverse_fault.ReverseFault.{ReverseFault}
 use Rattle.lq_back.specs.declared.reverse_fault.ReverseFault.TheVariants.{Not, OutOfMemory}
 use Rattle.lq_back.specs.declared.row_turns.RowTurns.{RowTurns}
@@ -20,19 +20,19 @@ use Rattle.lq_base.specs.declared.run.Printed.{Printed}
 use Rattle.lq_base.specs.declared.tracking.Tracked.{Tracked}
 use Rattle.lq_expr.specs.declared.options.Options.{Options}
 use Rattle.lq_hand.specs.Way.{Way}
-use Rattle.lq_kinds.specs.AnyChange.{inverse}
-use Rattle.lq_kinds.specs.declared.any_change.AnyChange.{AnyChange}
+use Rattle.lq_any.specs.AnyChange.{inverse}
+use Rattle.lq_any.specs.declared.any_change.AnyChange.{AnyChange}
 use Rattle.lq_kinds.specs.declared.change_set.ChangeSet.{ChangeSet}
 use Rattle.lq_model.specs.Step.{is_statement}
 use Rattle.lq_model.specs.declared.statement.Statement.{Statement}
 use Rattle.lq_plan.specs.Told.{IdentityKey, key_cmp, keyed}
 use Rattle.lq_seen.specs.Telling.{Account, Leads, Reports, WarnsFirst, shown, with_texts}
-use Rattle.lq_seen.specs.View.{is_selected, view}
+use Rattle.lq_seen.specs.View.{any_meaning, is_selected, view, views}
 use Rattle.lq_track.specs.Database.{same_identity}
 use Rattle.lq_track.specs.Log.{identity_of}
 use Rattle.lq_turns.specs.Deed.{Contents}
 use Rattle.lq_turns.specs.Printed.{printed_back}
-use Rattle.lq_turns.specs.Script.{all_rolled, is_mark_ran, rows_to_sync}
+use Rattle.lq_turns.specs.Script.{all_rolled, is_mark_ran, rows_to_sync, undo_turn}
 use Rattle.lq_turns.specs.Set.{Set, has_row}
 use Rattle.lq_turns.specs.Settle.{greatest}
 use Rattle.lq_turns.specs.declared.call.Call.{Call}
@@ -64,17 +64,25 @@ found_from n of (x ∷ xs) = if is_its of x then Some (n, x) else found_from (su
 abbrev pub found_at : Identity → List ChangeSet → Option (ℕ × ChangeSet)
 found_at of xs = found_from 0 of xs
 
--- by the changeset at its place, where something takes that back
-abbrev pub by_place : ℕ × ChangeSet → Option TakenBack
-by_place found = if is_undoable found.1 then Some (By found.0) else None
+-- the place of a changeset that something takes back
+abbrev pub undoable_place : ℕ × ChangeSet → Option ℕ
+undoable_place found = if is_undoable found.1 then Some found.0 else None
 
 -- the row of a changeset that was marked goes alone, another one by the changeset of its identity
 abbrev pub taken_back : List ChangeSet → Tracked → Option TakenBack
-taken_back xs row = if is_mark_ran row.exec then Some Alone else option_and_then by_place (found_at (identity_of row) xs)
+taken_back xs row = if is_mark_ran row.exec then Some Alone else option_map (λ n. By n) (option_and_then undoable_place (found_at (identity_of row) xs))
 
 -- how each of the rows is taken back, the last first
 abbrev pub AreWays : List ChangeSet → List Tracked → List TakenBack → Type 0
 AreWays xs rows ways = map (λ way. Some way) ways ≡ map (taken_back xs) (reverse rows)
+
+-- it is how the row is taken back
+abbrev pub IsWay : List ChangeSet → Tracked → TakenBack → Type 0
+IsWay xs row way = taken_back xs row ≡ Some way
+
+-- the turn that takes the row back, whatever a command selects
+abbrev pub IsTurn : Dialect → List ChangeSet → Tracked → Turn → Type 0
+IsTurn d xs row turn = (options : Options) → undo_turn d any_meaning (views options xs) row ≡ Some turn
 
 -- a turn that takes the row back by these statements, and deletes it
 abbrev pub turn_back : Tracked → List Statement → Bool → Turn

@@ -14,7 +14,8 @@ mod sync_turn;
 mod target;
 
 pub use laws::{places_are_known, turns_back_are_spelled};
-pub use reversal::{TakenBack, is_undoable, reversible};
+pub use lq_kept::TakenBack;
+pub use reversal::{is_undoable, reversible};
 pub use reverse_fault::ReverseFault;
 pub use row_back::undo_turns;
 pub use row_turns::RowTurns;

@@ -1,28 +1,19 @@
 ghost use Rattle.std.specs.List.{list_all};
-ghost use Rattle.std.specs.Prelude.{◌≡◌, IfOk, List, None, Some, if◌then◌else◌, is_none, reverse};
+ghost use Rattle.std.specs.Prelude.{◌≡◌, IfOk, List, None, Some, is_none, option_and_then, reverse};
 ghost use Rattle.lq_expr.specs.declared.options.Options.{Options};
 ghost use Rattle.lq_kinds.specs.declared.change_set.ChangeSet.{ChangeSet as OneSet};
 ghost use Rattle.lq_track.specs.Log.{identity_of};
-ghost use Rattle.lq_turns.specs.Script.{is_mark_ran, not_reversible, undo_turn};
-ghost use Rattle.lq_back.specs.Reversal.{AreWays, HasSets, IsRefusal, IsReversed, has_inverse, is_undoable, taken_back};
+ghost use Rattle.lq_turns.specs.Script.{not_reversible, undo_turn};
+ghost use Rattle.lq_back.specs.Reversal.{AreWays, HasSets, IsRefusal, IsReversed, found_at, has_inverse, is_undoable, taken_back, undoable_place};
 ghost use Rattle.lq_seen.specs.View.{any_meaning, views};
-ghost use Rattle.lq_back.specs.declared.reversal.TakenBack.TheVariants.{By};
 
 use crate::invertible::has_inverse;
 use crate::reverse_fault::ReverseFault;
 use crate::set_index::{Place, SetIndex, index_of, place_of};
-use lq_base::{Exec, Identity, Items, NoMemory, Tracked};
+use lq_base::{Identity, Items, NoMemory, Tracked};
+use lq_kept::{TakenBack, way_of};
 use lq_kinds::{AnyChange, ChangeSet, Changelog};
 use std::alloc::Global;
-
-/// How a row is taken back.
-#[derive(Clone, Copy, PartialEq, Eq)]
-pub enum TakenBack {
-    /// The row goes alone, since its changeset was marked and did not run.
-    Alone,
-    /// By the changeset at this place of the changelog, from 0.
-    By(usize),
-}
 
 /// Whether the changeset says what takes it back, or that is generated for each of its changes.
 pub fn is_undoable(set: &ChangeSet) -> bool
@@ -37,35 +28,34 @@ fn have_inverses(changes: &[AnyChange]) -> bool
     changes.iter().all(|change| has_inverse(change))
 }
 
-fn is_marked(row: &Tracked) -> bool
-    ensures { result ≡ is_mark_ran row.now.exec }
-{
-    row.exec == Exec::MarkRan
-}
-
-/// How the row is taken back, where something takes it back.
-fn way_of<'a>(index: &SetIndex<'a>, row: &'a Tracked) -> Option<TakenBack>
-    ensures way { (xs : List OneSet) → HasSets xs index.now → result ≡ taken_back xs row.now }
-    ensures none { (xs : List OneSet) (options : Options)
+/// The place of the row's changeset, where that says what takes it back.
+fn undoing_place<'a>(index: &SetIndex<'a>, row: &'a Tracked) -> Option<usize>
+    ensures { (xs : List OneSet)
         → HasSets xs index.now
-        → is_none result
-        ≡ is_none (undo_turn options.dialect any_meaning (views options xs) row.now) }
+        → result ≡ option_and_then undoable_place (found_at (identity_of row.now) xs) }
 {
-    if is_marked(row) {
-        return Some(TakenBack::Alone);
-    }
     match place_of(index, row) {
         Some(place) => by_set(place),
         None => None,
     }
 }
 
-fn by_set(place: Place<'_>) -> Option<TakenBack>
-    ensures { result
-        ≡ (if is_undoable place.entry.set.now then Some (By place.entry.index) else None) }
+/// How the row is taken back, where something takes it back.
+fn way_found<'a>(index: &SetIndex<'a>, row: &'a Tracked) -> Option<TakenBack>
+    ensures way { (xs : List OneSet) → HasSets xs index.now → result ≡ taken_back xs row.now }
+    ensures none { (xs : List OneSet) (options : Options)
+        → HasSets xs index.now
+        → is_none result
+        ≡ is_none (undo_turn options.dialect any_meaning (views options xs) row.now) }
+{
+    way_of(row, undoing_place(index, row))
+}
+
+fn by_set(place: Place<'_>) -> Option<usize>
+    ensures { result ≡ undoable_place (place.entry.index, place.entry.set.now) }
 {
     if is_undoable(place.set) {
-        Some(TakenBack::By(place.index))
+        Some(place.index)
     } else {
         None
     }
@@ -109,7 +99,7 @@ pub fn reversible(
     let mut ways = Items::new(alloc);
     let mut rest = rows;
     while let Some((row, front)) = rest.split_last() {
-        let Some(way) = way_of(&index, row) else {
+        let Some(way) = way_found(&index, row) else {
             return Err(refusal(alloc, row));
         };
         ways.push(way)?;

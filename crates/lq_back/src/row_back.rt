@@ -1,14 +1,15 @@
 ghost use Rattle.std.specs.Prelude.{◌≡◌, IfOk, Some, reverse, true};
 ghost use Rattle.lq_expr.specs.declared.options.Options.{Options};
-ghost use Rattle.lq_kinds.specs.AnyChange.{AreFor, is_read_for};
+ghost use Rattle.lq_kinds.specs.ReadFor.{AreFor, is_read_for};
 ghost use Rattle.lq_track.specs.Log.{identity_of};
 ghost use Rattle.lq_turns.specs.Script.{undo_by, undo_turn, undo_turns};
 ghost use Rattle.lq_back.specs.Reversal.{AreWays, is_undoable, taken_back, turn_back};
 ghost use Rattle.lq_seen.specs.View.{any_meaning, view, views};
-ghost use Rattle.lq_back.specs.declared.reversal.TakenBack.TheVariants.{By};
+ghost use Rattle.lq_kept.specs.declared.way.TakenBack.TheVariants.{By};
 
-use crate::reversal::{TakenBack, identity_of};
+use crate::reversal::identity_of;
 use lq_base::{Dialect, Items, NoMemory, Tracked};
+use lq_kept::{TakenBack, UndoesRows, undo_all};
 use lq_kinds::{ChangeSet, Changelog};
 use lq_model::Statement;
 use lq_seen::undoing;
@@ -103,6 +104,32 @@ fn undo_turn(
     }
 }
 
+/// What takes rows back by the changesets of a changelog that was read for the dialect.
+#[derive(Drop)]
+struct Changesets<'a> {
+    dialect: Dialect,
+    changelog: &'a Changelog,
+    ghost read: { AreFor dialect changelog.now },
+}
+
+impl<'a> UndoesRows for Changesets<'a> {
+    ghost use Rattle.lq_back.specs.Reversal.{IsTurn, IsWay};
+
+    type Row = Tracked;
+
+    type Way = TakenBack;
+
+    type Turn = Turn;
+
+    ghost is_way = { λ by. IsWay by.changelog.now.sets };
+
+    ghost is_turn = { λ by. IsTurn by.dialect by.changelog.now.sets };
+
+    fn undo(&self, alloc: Global, row: &Tracked, way: &TakenBack) -> Result<Turn, NoMemory> {
+        undo_turn(alloc, self.dialect, self.changelog, row, *way)
+    }
+}
+
 /// The turns that take these rows back, the next one last, so that the last row's turn is popped
 /// first. The changelog was read for the dialect, and `ways` is what `reversible` gives for the rows.
 pub fn undo_turns(
@@ -119,17 +146,7 @@ pub fn undo_turns(
         → undo_turns dialect any_meaning (views options changelog.now.sets) (reverse rows.now)
         ≡ Some (reverse turns)) }
 {
-    let mut turns = Items::new(alloc);
-    let mut rest = rows;
-    let mut left = ways;
-    while let Some((row, after)) = rest.split_first() {
-        let Some((way, front)) = left.split_last() else {
-            unreachable!()
-        };
-        let turn = undo_turn(alloc, dialect, changelog, row, *way)?;
-        turns.push(turn)?;
-        left = front;
-        rest = after;
-    }
+    let by = Changesets { dialect, changelog };
+    let turns = undo_all(alloc, &by, rows, ways)?;
     Ok(turns)
 }

@@ -3,7 +3,7 @@ ghost use Rattle.std.specs.Prelude.{◌≡◌, ◌++◌, ◌∷◌, [], IfOk, Li
 ghost use Rattle.lq_base.specs.declared.run.Happened.{Happened as Event};
 ghost use Rattle.lq_base.specs.declared.run.Printed.{Printed as Shown};
 ghost use Rattle.lq_expr.specs.declared.options.Options.{Options};
-ghost use Rattle.lq_kinds.specs.AnyChange.{AreFor};
+ghost use Rattle.lq_kinds.specs.ReadFor.{AreFor};
 ghost use Rattle.lq_model.specs.Step.{is_statement};
 ghost use Rattle.lq_turns.specs.Deed.{Contents};
 ghost use Rattle.lq_turns.specs.Script.{undo_turns};
@@ -11,10 +11,10 @@ ghost use Rattle.lq_back.specs.Reversal.{AreWays, LeadsBack, goes_back, printed,
 ghost use Rattle.lq_seen.specs.Telling.{of_turns};
 ghost use Rattle.lq_seen.specs.View.{any_meaning, views};
 
-use crate::reversal::TakenBack;
 use crate::row_back::undo_turns;
 use lq_base::{Dialect, Did, Duplicate, Happened, Items, NoMemory, Printed, Tracked};
 use lq_hand::{Entered, Hand, Source};
+use lq_kept::TakenBack;
 use lq_kinds::Changelog;
 use lq_model::{Look, SqlText};
 use lq_seen::{Outcome, print};
@@ -68,7 +68,7 @@ impl RowTurns {
 impl Source for RowTurns {
     ghost use Rattle.std.specs.List.{list_all};
     ghost use Rattle.std.specs.Prelude.{◌≡◌, reverse, true};
-    ghost use Rattle.lq_kinds.specs.declared.any_change.AnyChange.{AnyChange};
+    ghost use Rattle.lq_any.specs.declared.any_change.AnyChange.{AnyChange};
     ghost use Rattle.lq_back.specs.Reversal.{goes_back, row_way};
     ghost use Rattle.lq_seen.specs.Telling.{Account};
     ghost use Rattle.lq_seen.specs.View.{any_meaning};

@@ -6,7 +6,7 @@ use Rattle.std.specs.List.{find}
 use Rattle.lq_back.proofs.Ways.{undoable}
 use Rattle.lq_base.specs.declared.identity.Identity.{Identity}
 use Rattle.lq_base.specs.declared.tracking.Tracked.{Tracked}
-use Rattle.lq_kinds.specs.declared.any_change.AnyChange.{AnyChange}
+use Rattle.lq_any.specs.declared.any_change.AnyChange.{AnyChange}
 use Rattle.lq_kinds.specs.declared.change_set.ChangeSet.{ChangeSet}
 use Rattle.lq_model.specs.declared.statement.Statement.{Statement}
 use Rattle.lq_plan.specs.Told.{item_at, work_from}
@@ -18,7 +18,7 @@ use Rattle.lq_turns.specs.Settle.{what}
 use Rattle.lq_turns.specs.declared.choice.What.{What}
 use Rattle.lq_turns.specs.declared.choice.What.TheVariants.{Again, Fill, New}
 use Rattle.lq_bound.specs.Turns.{bound_in, if_bound, is_bound as is_bound_set}
-use Rattle.lq_bound.specs.Bound.{first_bound, identity_in, is_bound}
+use Rattle.lq_back.specs.Bound.{first_bound, identity_in, is_bound}
 
 none_some : (u : Option (List Statement)) → not (is_some u) ≡ is_none u
 none_some None = refl

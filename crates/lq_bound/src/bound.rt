@@ -1,7 +1,7 @@
 ghost use Rattle.std.specs.Option.{option_copied};
 ghost use Rattle.std.specs.Prelude.{◌≡◌, List};
 ghost use Rattle.lq_base.specs.declared.tracking.Tracked.{Tracked as Row};
-ghost use Rattle.lq_bound.specs.Bound.{first_bound};
+ghost use Rattle.lq_back.specs.Bound.{first_bound};
 ghost use Rattle.lq_bound.specs.Turns.{bound_at, bound_in, is_bound};
 ghost use Rattle.lq_expr.specs.declared.options.Options.{Options};
 ghost use Rattle.lq_plan.specs.Told.{work};

@@ -6,9 +6,9 @@ use Rattle.std.specs.List.{flat_map, join_by, list_all}
 use Rattle.std.specs.Prelude.{List, [], codes, nat_lt, refl, true, ℕ, ◌++◌, ◌<◌, ◌∷◌, ◌≡◌}
 use Rattle.std.specs.Str.{IsAscii, IsUtf8}
 use Rattle.lq_model.proofs.Lists.{and_left, and_right}
-use Rattle.lq_kinds.specs.AnyChange.{canonical_of}
-use Rattle.lq_kinds.specs.declared.any_change.AnyChange.{AnyChange}
-use Rattle.lq_kinds.specs.declared.any_change.AnyChange.TheVariants.{TagDatabase}
+use Rattle.lq_any.specs.AnyChange.{canonical_of}
+use Rattle.lq_any.specs.declared.any_change.AnyChange.{AnyChange}
+use Rattle.lq_any.specs.declared.any_change.AnyChange.TheVariants.{TagDatabase}
 
 abbrev name_of : AnyChange → List ℕ
 name_of x = (canonical_of x).name

@@ -11,8 +11,10 @@ use Rattle.lq_base.specs.declared.dialect.Dialect.{Dialect}
 use Rattle.lq_base.specs.declared.fault.KindFault.TheVariants.{Unknown}
 use Rattle.lq_cond.specs.declared.cond.Reaction.{Reaction}
 use Rattle.lq_contents.specs.Trees.{file_tree, in_json, in_sql, in_yaml}
-use Rattle.lq_kinds.proofs.Right.{IsSpelled, set_right}
-use Rattle.lq_kinds.specs.AnyChange.{is_for, AreFor, is_block_for, is_read_for}
+use Rattle.lq_any.proofs.Right.{IsSpelled}
+use Rattle.lq_kinds.proofs.Right.{set_right}
+use Rattle.lq_any.specs.AnyChange.{is_for}
+use Rattle.lq_kinds.specs.ReadFor.{AreFor, is_block_for, is_read_for}
 use Rattle.lq_kinds.specs.ChangeSets.{old_sum_of, set_of, sum_of, is_label}
 use Rattle.lq_kinds.specs.declared.change_set.ChangeSet.{ChangeSet}
 use Rattle.lq_kinds.specs.declared.change_set.Changelog.{Changelog}

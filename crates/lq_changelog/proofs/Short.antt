@@ -14,11 +14,12 @@ use Rattle.lq_model.proofs.Lists.{all-append, and_left, and_right, and_true}
 use Rattle.lq_canon.specs.Sums.{uniformed}
 use Rattle.lq_model.specs.Changes.{canonical_changes}
 use Rattle.lq_tree.specs.declared.node.Node.{Node}
-use Rattle.lq_kinds.specs.AnyChange.{canonical_of, is_for, is_read_for}
+use Rattle.lq_any.specs.AnyChange.{canonical_of, is_for}
+use Rattle.lq_kinds.specs.ReadFor.{is_read_for}
 use Rattle.lq_kinds.specs.ChangeSets.{set_of, set_with, sum_of, is_label}
 use Rattle.lq_kinds.specs.Changes.{Files}
-use Rattle.lq_kinds.specs.declared.any_change.AnyChange.{AnyChange}
-use Rattle.lq_kinds.specs.declared.any_change.AnyChange.TheVariants.{TagDatabase}
+use Rattle.lq_any.specs.declared.any_change.AnyChange.{AnyChange}
+use Rattle.lq_any.specs.declared.any_change.AnyChange.TheVariants.{TagDatabase}
 use Rattle.lq_kinds.specs.declared.change_set.ChangeSet.{ChangeSet}
 use Rattle.lq_changelog.proofs.KeysRead.{heading_read, path_read, set_read}
 use Rattle.lq_changelog.specs.Gathers.{HasShortTag, HasShortTexts}

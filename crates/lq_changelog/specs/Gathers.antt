@@ -12,11 +12,11 @@ use Rattle.lq_cond.specs.declared.cond.Cond.{Cond}
 use Rattle.lq_cond.specs.declared.cond.Cond.TheVariants.{And}
 use Rattle.lq_cond.specs.declared.cond.Reaction.{Reaction}
 use Rattle.lq_contents.specs.Trees.{file_tree, own_reaction}
-use Rattle.lq_kinds.specs.AnyChange.{gives}
+use Rattle.lq_any.specs.AnyChange.{gives}
 use Rattle.lq_kinds.specs.ChangeSets.{is_label, old_sum_of, set_of, sum_of}
 use Rattle.lq_kinds.specs.Changes.{here_at, is_read}
-use Rattle.lq_kinds.specs.declared.any_change.AnyChange.{AnyChange}
-use Rattle.lq_kinds.specs.declared.any_change.AnyChange.TheVariants.{TagDatabase}
+use Rattle.lq_any.specs.declared.any_change.AnyChange.{AnyChange}
+use Rattle.lq_any.specs.declared.any_change.AnyChange.TheVariants.{TagDatabase}
 use Rattle.lq_kinds.specs.declared.change_set.ChangeSet.{ChangeSet}
 use Rattle.lq_kinds.specs.declared.change_set.Changelog.{Changelog}
 use Rattle.lq_kinds.specs.declared.fault.SetFault.{SetFault}

@@ -1,11 +1,12 @@
 ghost use Rattle.std.specs.List.{All};
 ghost use Rattle.std.specs.Prelude.{◌≡◌, IfSome, OnOk, true};
 ghost use Rattle.lq_base.specs.Number.{if_there};
-ghost use Rattle.lq_kinds.specs.AnyChange.{AreFor, is_read_for};
+ghost use Rattle.lq_kinds.specs.ReadFor.{AreFor, is_read_for};
 ghost use Rattle.lq_changelog.specs.Gathers.{HasShortTexts};
 
-use lq_base::{Items, NoMemory, OnFail};
+use lq_base::{Items, NoMemory};
 use lq_cond::{Cond, Reaction};
+use lq_joined::Joined;
 use lq_kinds::{ChangeSet, Changelog};
 use lq_model::SqlText;
 use std::alloc::Global;
@@ -16,10 +17,7 @@ use std::marker::{Model, PhantomData};
 #[derive(Drop)]
 pub struct Gathered<P: SqlText> {
     /// The conditions of all files.
-    conds: Items<Cond>,
-    /// What the root says.
-    on_fail: OnFail,
-    on_error: OnFail,
+    joined: Joined<Cond>,
     sets: Items<ChangeSet>,
     sql: PhantomData<P>,
 }
@@ -29,7 +27,7 @@ impl<P: SqlText> Model for Gathered<P> {
     ghost use Rattle.std.specs.List.{All, list_all};
     ghost use Rattle.std.specs.Prelude.{◌≡◌, true};
     ghost use Rattle.lq_cond.specs.contracts.cond.Cond as cond;
-    ghost use Rattle.lq_kinds.specs.AnyChange.{is_read_for};
+    ghost use Rattle.lq_kinds.specs.ReadFor.{is_read_for};
     ghost use Rattle.lq_kinds.specs.contracts.change_set.ChangeSet as set;
     ghost use Rattle.lq_changelog.specs.Gathers.{Contents, HasShortTexts};
 
@@ -37,7 +35,8 @@ impl<P: SqlText> Model for Gathered<P> {
 
     ghost coded = { Prim.hlevel (codes, cond.the_row.coded, set.the_row.coded) };
 
-    ghost view = { λ g. record { conds = g.conds; on_fail = g.on_fail; on_error = g.on_error; sets = g.sets } };
+    ghost view = { λ g.
+        record { conds = g.joined.conds; on_fail = g.joined.on_fail; on_error = g.joined.on_error; sets = g.sets } };
 
     ghost invariant = { λ g. (list_all (is_read_for P.dialect) g.sets ≡ true) × All HasShortTexts g.sets };
 }
@@ -49,9 +48,7 @@ impl<P: SqlText> Gathered<P> {
         ensures { result ≡ nothing }
     {
         Gathered {
-            conds: Items::new(alloc),
-            on_fail: OnFail::Halt,
-            on_error: OnFail::Halt,
+            joined: Joined::new(alloc),
             sets: Items::new(alloc),
             sql: PhantomData,
         }
@@ -79,11 +76,7 @@ impl<P: SqlText> Gathered<P> {
             on_fail,
             on_error,
         } = reaction;
-        self.conds.push(cond)?;
-        if is_root {
-            self.on_fail = on_fail;
-            self.on_error = on_error;
-        }
+        self.joined.add_reaction(is_root, cond, on_fail, on_error)?;
         Ok(())
     }
 
@@ -93,9 +86,9 @@ impl<P: SqlText> Gathered<P> {
         ensures short { All HasShortTexts result.sets }
     {
         Changelog {
-            cond: Cond::And(self.conds),
-            on_fail: self.on_fail,
-            on_error: self.on_error,
+            cond: Cond::And(self.joined.conds),
+            on_fail: self.joined.on_fail,
+            on_error: self.joined.on_error,
             sets: self.sets,
         }
     }

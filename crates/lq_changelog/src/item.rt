@@ -1,6 +1,6 @@
 ghost use Rattle.std.specs.Prelude.{◌≡◌, IfOk, IfSome, true};
 ghost use Rattle.lq_base.specs.Number.{if_there};
-ghost use Rattle.lq_kinds.specs.AnyChange.{is_read_for};
+ghost use Rattle.lq_kinds.specs.ReadFor.{is_read_for};
 ghost use Rattle.lq_kinds.specs.ChangeSets.{is_label};
 ghost use Rattle.lq_sources.specs.Faults.{IsGathered, IsMade};
 ghost use Rattle.lq_paths.specs.Paths.{format_of};

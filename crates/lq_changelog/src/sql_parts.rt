@@ -1,6 +1,7 @@
 ghost use Rattle.std.specs.Prelude.{◌≡◌, ◌==◌, [], IfOk, IfSome, length, option_copied, true};
 ghost use Rattle.lq_base.specs.Number.{if_there};
-ghost use Rattle.lq_kinds.specs.AnyChange.{gives, is_for, is_read_for};
+ghost use Rattle.lq_any.specs.AnyChange.{gives, is_for};
+ghost use Rattle.lq_kinds.specs.ReadFor.{is_read_for};
 ghost use Rattle.lq_kinds.specs.ChangeSets.{ReadsSet, old_sum_of, sum_of, is_label};
 ghost use Rattle.lq_tree.specs.Look.{value_at};
 ghost use Rattle.std.specs.List.{list_all};

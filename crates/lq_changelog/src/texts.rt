@@ -2,7 +2,7 @@ ghost use Rattle.std.specs.Prelude.{◌≡◌, IfOk, IfSome, true};
 ghost use Rattle.std.specs.Str.{IsUtf8};
 ghost use Rattle.lq_base.specs.Number.{if_there};
 ghost use Rattle.lq_kinds.specs.ChangeSets.{ReadsSet, set_of, is_label};
-ghost use Rattle.lq_kinds.specs.AnyChange.{is_read_for};
+ghost use Rattle.lq_kinds.specs.ReadFor.{is_read_for};
 ghost use Rattle.lq_changelog.specs.Gathers.{HasShortTexts};
 
 use lq_base::{Dialect, Items, Text};

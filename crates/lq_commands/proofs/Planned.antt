@@ -9,9 +9,9 @@ use Rattle.lq_base.specs.declared.tracking.Tracked.{Tracked}
 use Rattle.lq_beside.proofs.OtherFits.{rollback_fits, sync_fits}
 use Rattle.lq_beside.proofs.UpdateFits.{update_fits}
 use Rattle.lq_beside.specs.Replays.{HasTexts, is_deleted, is_return, calls_fit}
-use Rattle.lq_kinds.specs.AnyChangeLaws.{does, restores, spelled}
-use Rattle.lq_kinds.specs.AnyChange.{AreFor}
-use Rattle.lq_kinds.specs.declared.any_change.AnyChange.{AnyChange}
+use Rattle.lq_any.specs.AnyChangeLaws.{does, restores, spelled}
+use Rattle.lq_kinds.specs.ReadFor.{AreFor}
+use Rattle.lq_any.specs.declared.any_change.AnyChange.{AnyChange}
 use Rattle.lq_model.proofs.Lists.{and_left, and_right, and_true}
 use Rattle.lq_model.specs.Sound.{IsSound}
 use Rattle.lq_model.specs.Step.{is_statement}

@@ -22,7 +22,7 @@ use Rattle.lq_run.specs.declared.runner.End.TheVariants as end
 use Rattle.lq_back.specs.Reversal.{LeadsBack, goes_back, row_way}
 use Rattle.lq_seen.specs.View.{any_meaning}
 use Rattle.lq_seen.specs.declared.outcome.Outcome.{Outcome}
-use Rattle.lq_back.specs.declared.reversal.TakenBack.{TakenBack}
+use Rattle.lq_kept.specs.declared.way.TakenBack.{TakenBack}
 use Rattle.lq_back.specs.declared.row_turns.RowTurns.{RowTurns}
 use Rattle.lq_store.specs.Journal.{Crashes, State}
 use Rattle.lq_tell.specs.Lines.{warning_line, warning_lines}

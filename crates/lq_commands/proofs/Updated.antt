@@ -14,8 +14,8 @@ use Rattle.lq_base.specs.declared.tracking.Tracked.{Tracked}
 use Rattle.lq_beside.proofs.TablesRead.{not_is}
 use Rattle.lq_beside.specs.Replays.{calls_fit}
 use Rattle.lq_changelog.specs.Gathers.{HasShortTexts}
-use Rattle.lq_kinds.specs.AnyChange.{AreFor}
-use Rattle.lq_kinds.specs.declared.any_change.AnyChange.{AnyChange}
+use Rattle.lq_kinds.specs.ReadFor.{AreFor}
+use Rattle.lq_any.specs.declared.any_change.AnyChange.{AnyChange}
 use Rattle.lq_model.proofs.Lists.{and_left}
 use Rattle.lq_model.specs.declared.statement.Statement.{Statement}
 use Rattle.lq_plan.specs.Told.{work_from}

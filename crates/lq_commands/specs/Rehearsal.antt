@@ -7,7 +7,7 @@ use Rattle.lq_base.specs.declared.dialect.Dialect.{Dialect}
 use Rattle.lq_base.specs.declared.identity.Identity.{Identity}
 use Rattle.lq_base.specs.declared.run.Why.{Why}
 use Rattle.lq_base.specs.declared.tracking.Tracked.{Tracked}
-use Rattle.lq_bound.specs.Bound.{first_bound}
+use Rattle.lq_back.specs.Bound.{first_bound}
 use Rattle.lq_cli.specs.declared.line.Job.{Job}
 use Rattle.lq_cli.specs.declared.line.Job.TheVariants.{UpdateTo}
 use Rattle.lq_commands.specs.Refusals.{if_not, own_halt, unready}

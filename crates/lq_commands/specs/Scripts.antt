@@ -9,7 +9,7 @@ use Rattle.lq_base.specs.declared.tracking.Tracked.{Tracked}
 use Rattle.lq_beside.specs.Replays.{calls_fit}
 use Rattle.lq_commands.specs.declared.given.Given.{Given}
 use Rattle.lq_hand.specs.Way.{IsUnderWay, Way}
-use Rattle.lq_kinds.specs.declared.any_change.AnyChange.{AnyChange}
+use Rattle.lq_any.specs.declared.any_change.AnyChange.{AnyChange}
 use Rattle.lq_run.specs.declared.runner.End.{End}
 use Rattle.lq_run.specs.declared.runner.End.TheVariants as end
 use Rattle.lq_seen.specs.Telling.{Account, of_sets, of_turns}

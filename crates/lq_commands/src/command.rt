@@ -4,7 +4,7 @@ ghost use Rattle.lq_base.specs.Number.{char_count};
 ghost use Rattle.lq_changelog.specs.Gathers.{HasShortTexts};
 ghost use Rattle.lq_base.specs.declared.command.Command.TheVariants as command;
 ghost use Rattle.lq_cli.specs.declared.line.Job.TheVariants as job;
-ghost use Rattle.lq_kinds.specs.AnyChange.{AreFor};
+ghost use Rattle.lq_kinds.specs.ReadFor.{AreFor};
 ghost use Rattle.lq_outside.specs.Forms.{Rose};
 ghost use Rattle.lq_tell.specs.declared.status.Status.TheVariants.{DiskFault};
 ghost use Rattle.lq_commands.specs.Scripts.{is_at_once, printed_script, script, tag_in};

@@ -3,7 +3,7 @@ ghost use Rattle.std.specs.Prelude.{◌≡◌, ◌≤◌, Err, IfOk, false};
 ghost use Rattle.lq_base.specs.declared.dialect.Dialect.{Dialect as Spoken};
 ghost use Rattle.lq_changelog.specs.Gathers.{HasShortTexts};
 ghost use Rattle.lq_cli.specs.declared.line.Job.TheVariants as job;
-ghost use Rattle.lq_kinds.specs.AnyChange.{AreFor};
+ghost use Rattle.lq_kinds.specs.ReadFor.{AreFor};
 ghost use Rattle.lq_outside.specs.Forms.{Rose};
 ghost use Rattle.lq_portion.specs.Portion.{counted};
 ghost use Rattle.lq_tell.specs.declared.status.Status.TheVariants.{DiskFault};

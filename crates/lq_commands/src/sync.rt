@@ -3,7 +3,7 @@ ghost use Rattle.std.specs.Option.{option_copied};
 ghost use Rattle.std.specs.Prelude.{◌≡◌, ◌≤◌, ◌≢◌, [], Err, IfErr, IfOk, None, Some, false, option_map, true};
 ghost use Rattle.lq_base.specs.declared.command.Command.TheVariants as command;
 ghost use Rattle.lq_changelog.specs.Gathers.{HasShortTexts};
-ghost use Rattle.lq_kinds.specs.AnyChange.{AreFor};
+ghost use Rattle.lq_kinds.specs.ReadFor.{AreFor};
 ghost use Rattle.lq_outside.specs.Forms.{Rose};
 ghost use Rattle.lq_report.specs.Output.{sync_text};
 ghost use Rattle.lq_run.specs.Commands.{LeavesAs};

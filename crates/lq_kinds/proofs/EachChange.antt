@@ -6,7 +6,7 @@ use Rattle.lq_base.specs.declared.dialect.Dialect.{Dialect}
 use Rattle.lq_tree.specs.Items.{item_path}
 use Rattle.lq_tree.specs.declared.node.Node.{Node}
 use Rattle.lq_kinds.specs.Changes.{Files, change_at, changes_from, left_by, by_set, map_set}
-use Rattle.lq_kinds.specs.declared.any_change.AnyChange.{AnyChange}
+use Rattle.lq_any.specs.declared.any_change.AnyChange.{AnyChange}
 use Rattle.lq_kinds.specs.declared.fault.SetFault.{SetFault}
 
 joins : (all : List AnyChange) (x : AnyChange) (rest : Result (List AnyChange) SetFault) → map_set (λ more. all ++ more) (map_set (λ more. x ∷ more) rest) ≡ map_set (λ more. (all ++ x ∷ []) ++ more) rest

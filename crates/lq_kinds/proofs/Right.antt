@@ -1,68 +1,27 @@
--- What is read of a tree is for the dialect: a change of any type, and changesets.
-use Rattle.std.proofs.Common.{ap, subst, sym, ◌∙◌}
+-- What is read of a tree is for the dialect: changesets.
+use Rattle.std.proofs.Common.{subst, sym, ◌∙◌}
 use Rattle.std.proofs.lemmas.Bool.{and_from, and_parts}
 use Rattle.std.specs.List.{list_all}
-use Rattle.std.specs.Prelude.{Bool, Err, IfOk, IfSome, List, None, Ok, Option, Result, Some, [], codes, cond, if◌then◌else◌, refl, true, false, ℕ, ◌+◌, ◌∷◌, ◌≡◌}
-use Rattle.std.specs.Str.{bytes_eq}
+use Rattle.std.specs.Prelude.{Bool, Err, IfOk, IfSome, List, None, Ok, Option, Result, Some, [], codes, cond, refl, true, false, ℕ, ◌+◌, ◌∷◌, ◌≡◌}
 use Rattle.lq_base.specs.Number.{if_there}
 use Rattle.lq_base.specs.declared.dialect.Dialect.{Dialect}
-use Rattle.lq_base.specs.declared.fault.KindFault.TheVariants.{Unknown}
-use Rattle.lq_model.specs.SqlText.{QueriesAreSpelled, StatementsAreSpelled, TestsAreSpelled}
 use Rattle.lq_tree.proofs.Says.{IsSo, Says, all_found, anything, given, given_at, map_so, start, then_so, within_so}
-use Rattle.lq_tree.proofs.Small.{are_small, have_small, is_small, items_small, map_is, map_small, text_small, value_small}
-use Rattle.lq_tree.specs.Look.{Found, and_then, map_found, within, is_null, list_of, map_of, printed_of, value_at}
+use Rattle.lq_tree.proofs.Small.{are_small, is_small, items_small, map_is, text_small, value_small}
+use Rattle.lq_tree.specs.Look.{Found, map_found, within, is_null, list_of, printed_of, value_at}
 use Rattle.lq_tree.specs.Items.{item_path, items_from}
-use Rattle.lq_tree.specs.Keys.{Keys, fields, optional, required, ◌⊛◌}
+use Rattle.lq_tree.specs.Keys.{fields, optional, required, ◌⊛◌}
 use Rattle.lq_tree.specs.Given.{a_text}
 use Rattle.lq_tree.specs.declared.node.Node.{Map as MapNode, Node, Text as TextNode}
-use Rattle.lq_columns.proofs.Right as columns
-use Rattle.lq_data.proofs.Right as row_changes
-use Rattle.lq_keys.proofs.Right as keys
 use Rattle.lq_load.proofs.Right.{load_right}
-use Rattle.lq_nullable.proofs.Right as nullable
-use Rattle.lq_primary_keys.proofs.Right as primary_keys
-use Rattle.lq_rename_column.proofs.Right.{rename_column_right}
-use Rattle.lq_tables.proofs.Right as tables
-use Rattle.lq_uniques.proofs.Right as uniques
-use Rattle.lq_views.proofs.Right as views
-use Rattle.lq_columns.specs.AddDefaultValue as add_default_value
-use Rattle.lq_nullable.specs.AddNotNull as add_not_null
-use Rattle.lq_columns.specs.DropColumn as drop_column
-use Rattle.lq_columns.specs.DropDefaultValue as drop_default_value
-use Rattle.lq_nullable.specs.DropNotNull as drop_not_null
-use Rattle.lq_rename_column.specs.RenameColumn as rename_column
-use Rattle.lq_data.specs.Delete as delete
-use Rattle.lq_data.specs.Empty as empty
-use Rattle.lq_data.specs.Insert as insert
-use Rattle.lq_data.specs.Sql as sql_text
-use Rattle.lq_data.specs.TagDatabase as tag_database
-use Rattle.lq_data.specs.Update as update
-use Rattle.lq_keys.specs.AddForeignKey as add_foreign_key
-use Rattle.lq_primary_keys.specs.AddPrimaryKey as add_primary_key
-use Rattle.lq_uniques.specs.AddUnique as add_unique
-use Rattle.lq_keys.specs.CreateIndex as create_index
-use Rattle.lq_keys.specs.DropForeignKey as drop_foreign_key
-use Rattle.lq_keys.specs.DropIndex as drop_index
-use Rattle.lq_primary_keys.specs.DropPrimaryKey as drop_primary_key
-use Rattle.lq_uniques.specs.DropUnique as drop_unique
-use Rattle.lq_tables.specs.AddColumn as add_column
-use Rattle.lq_tables.specs.CreateTable as create_table
-use Rattle.lq_tables.specs.DropTable as drop_table
-use Rattle.lq_tables.specs.RenameTable as rename_table
-use Rattle.lq_views.specs.CreateSequence as create_sequence
-use Rattle.lq_views.specs.CreateView as create_view
-use Rattle.lq_views.specs.DropSequence as drop_sequence
-use Rattle.lq_views.specs.DropView as drop_view
-use Rattle.lq_views.specs.RenameSequence as rename_sequence
-use Rattle.lq_views.specs.RenameView as rename_view
 use Rattle.lq_load.specs.LoadData.{load_data}
 use Rattle.lq_load.specs.LoadKeys.{load_keys}
-use Rattle.lq_load.specs.declared.load_keys.LoadKeys.{LoadKeys}
-use Rattle.lq_kinds.specs.AnyChange.{any_change, at_only, is_for, named, named_key, named_other, is_block_for, is_read_for}
-use Rattle.lq_kinds.specs.ChangeSets.{by_path, defaulted, heading, heading_keys, if_taken, no_reaction, notes, notes_keys, only_known, path_at, reaction_keys, running, selection, set_of, set_with, sums_keys, a_quoting, a_label}
-use Rattle.lq_kinds.specs.Changes.{as_bad, block, block_in, changes_at, changes_in, changes_of, if_tagged, is_read, once_tagged, rollback_at, rollback_keys, second_tag, sql_change, sql_node, undoing, undoing_by, undoing_list, undoing_scalar, undoing_text, Files, a_load, change_at, change_of, changes_from, left_by, load_in, load_of, by_keys, by_set, map_set}
-use Rattle.lq_kinds.specs.declared.any_change.AnyChange.{AnyChange}
-use Rattle.lq_kinds.specs.declared.any_change.AnyChange.TheVariants.{AddColumn, AddDefaultValue, AddForeignKeyConstraint, AddNotNullConstraint, AddPrimaryKey, AddUniqueConstraint, CreateIndex, CreateSequence, CreateTable, CreateView, Delete, DropColumn, DropDefaultValue, DropForeignKeyConstraint, DropIndex, DropNotNullConstraint, DropPrimaryKey, DropSequence, DropTable, DropUniqueConstraint, DropView, Empty, Insert, LoadData, RenameColumn, RenameSequence, RenameTable, RenameView, Sql, TagDatabase, Update}
+use Rattle.lq_any.proofs.Right.{IsSpelled, any_right}
+use Rattle.lq_any.specs.AnyChange.{any_change, is_for}
+use Rattle.lq_kinds.specs.ReadFor.{is_block_for, is_read_for}
+use Rattle.lq_kinds.specs.ChangeSets.{by_path, defaulted, heading, heading_keys, if_taken, no_reaction, notes, only_known, path_at, reaction_keys, running, selection, set_of, set_with, sums_keys, a_quoting, a_label}
+use Rattle.lq_kinds.specs.Changes.{as_bad, block, block_in, changes_at, changes_in, changes_of, if_tagged, is_read, once_tagged, rollback_at, rollback_keys, second_tag, sql_change, sql_node, undoing, undoing_by, undoing_list, undoing_scalar, undoing_text, Files, a_load, change_at, change_of, changes_from, left_by, load_of, by_keys, by_set, map_set}
+use Rattle.lq_any.specs.declared.any_change.AnyChange.{AnyChange}
+use Rattle.lq_any.specs.declared.any_change.AnyChange.TheVariants.{LoadData}
 use Rattle.lq_kinds.specs.declared.change_set.ChangeSet.{ChangeSet}
 use Rattle.lq_kinds.specs.declared.fault.SetFault.{SetFault}
 use Rattle.lq_kinds.specs.declared.heading.Heading.{Heading}
@@ -70,77 +29,7 @@ use Rattle.lq_kinds.specs.declared.heading.Notes.{Notes}
 use Rattle.lq_kinds.specs.declared.heading.Running.{Running}
 use Rattle.lq_kinds.specs.declared.heading.Selection.{Selection}
 
--- what is read of a dialect's texts can be written
-pub record IsSpelled (d : Dialect) : Type 0 where
-  pub statements : StatementsAreSpelled d
-  pub queries : QueriesAreSpelled d
-  pub tests : TestsAreSpelled d
-
 module _ (d : Dialect) (spelled : IsSpelled d) where
-  -- ---- a change by its name
-
-  step : {X : Type 0} (name : List ℕ) (fits : X → Bool) (key : List ℕ) (make : X → AnyChange) (r : Found X) (other : Found AnyChange) → ((x : X) → fits x ≡ true → is_for d (make x) ≡ true)
-      → IfOk r (IsSo fits) → IfOk other (IsSo (is_for d)) → IfOk (if bytes_eq name key then within key (map_found make r) else other) (IsSo (is_for d))
-  step name fits key make r other each so rest = by (bytes_eq name key) where
-    by : (here : Bool) → IfOk (if here then within key (map_found make r) else other) (IsSo (is_for d))
-    by true = within_so (IsSo (is_for d)) key (map_found make r) (map_so (IsSo fits) (IsSo (is_for d)) r make so each)
-    by false = rest
-
-  other_right : (name : List ℕ) (n : Node) → is_small n ≡ true → IfOk (named_other d name n) (IsSo (is_for d))
-  unfolding named_other
-  other_right name n small =
-      step name (create_view.is_for d) (codes "createView") (λ x. CreateView x) (create_view.create_view d n) _ (λ x so. so) ((views.create_view_right d spelled.queries).of n) (
-      step name (drop_view.is_for d) (codes "dropView") (λ x. DropView x) (drop_view.drop_view n) _ (λ x so. so) ((views.drop_view_right d).of n) (
-      step name (rename_view.is_for d) (codes "renameView") (λ x. RenameView x) (rename_view.rename_view n) _ (λ x so. so) ((views.rename_view_right d).of n) (
-      step name (create_sequence.is_for d) (codes "createSequence") (λ x. CreateSequence x) (create_sequence.create_sequence d n) _ (λ x so. so) (views.create_sequence_right d n small) (
-      step name (drop_sequence.is_for d) (codes "dropSequence") (λ x. DropSequence x) (drop_sequence.drop_sequence d n) _ (λ x so. so) ((views.drop_sequence_right d).of n) (
-      step name (rename_sequence.is_for d) (codes "renameSequence") (λ x. RenameSequence x) (rename_sequence.rename_sequence d n) _ (λ x so. so) ((views.rename_sequence_right d).of n) (
-      step name (insert.is_for d) (codes "insert") (λ x. Insert x) (insert.an_insert n) _ (λ x so. so) ((row_changes.insert_right d).of n) (
-      step name (update.is_for d) (codes "update") (λ x. Update x) (update.an_update d n) _ (λ x so. so) ((row_changes.update_right d spelled.tests).of n) (
-      step name (delete.is_for d) (codes "delete") (λ x. Delete x) (delete.a_delete d n) _ (λ x so. so) ((row_changes.delete_right d spelled.tests).of n) (
-      step name (sql_text.is_for d) (codes "sql") (λ x. Sql x) (sql_text.a_sql d n) _ (λ x so. so) ((row_changes.sql_right d spelled.statements).of n) (
-      step name (tag_database.is_for d) (codes "tagDatabase") (λ x. TagDatabase x) (tag_database.a_tag_database n) _ (λ x so. so) ((row_changes.tag_database_right d).of n) (
-      step name (empty.is_for d) (codes "empty") (λ x. Empty x) (empty.an_empty n) _ (λ x so. so) ((row_changes.empty_right d).of n) (
-      tt))))))))))))
-
-  key_right : (name : List ℕ) (n : Node) → is_small n ≡ true → IfOk (named_key d name n) (IsSo (is_for d))
-  unfolding named_key
-  key_right name n small =
-      step name (add_primary_key.is_for d) (codes "addPrimaryKey") (λ x. AddPrimaryKey x) (add_primary_key.add_primary_key d n) _ (λ x so. so) ((primary_keys.add_primary_key_right d).of n) (
-      step name (drop_primary_key.is_for d) (codes "dropPrimaryKey") (λ x. DropPrimaryKey x) (drop_primary_key.drop_primary_key d n) _ (λ x so. so) ((primary_keys.drop_primary_key_right d).of n) (
-      step name (add_foreign_key.is_for d) (codes "addForeignKeyConstraint") (λ x. AddForeignKeyConstraint x) (add_foreign_key.add_foreign_key d n) _ (λ x so. so) ((keys.add_foreign_key_right d).of n) (
-      step name (drop_foreign_key.is_for d) (codes "dropForeignKeyConstraint") (λ x. DropForeignKeyConstraint x) (drop_foreign_key.drop_foreign_key d n) _ (λ x so. so) ((keys.drop_foreign_key_right d).of n) (
-      step name (add_unique.is_for d) (codes "addUniqueConstraint") (λ x. AddUniqueConstraint x) (add_unique.add_unique d n) _ (λ x so. so) ((uniques.add_unique_right d).of n) (
-      step name (drop_unique.is_for d) (codes "dropUniqueConstraint") (λ x. DropUniqueConstraint x) (drop_unique.drop_unique d n) _ (λ x so. so) ((uniques.drop_unique_right d).of n) (
-      step name (create_index.is_for d) (codes "createIndex") (λ x. CreateIndex x) (create_index.create_index d n) _ (λ x so. so) ((keys.create_index_right d).of n) (
-      step name (drop_index.is_for d) (codes "dropIndex") (λ x. DropIndex x) (drop_index.drop_index d n) _ (λ x so. so) ((keys.drop_index_right d).of n) (
-      other_right name n small))))))))
-
-  named_right : (name : List ℕ) (n : Node) → is_small n ≡ true → IfOk (named d name n) (IsSo (is_for d))
-  unfolding named
-  named_right name n small =
-      step name (create_table.is_for d) (codes "createTable") (λ x. CreateTable x) (create_table.create_table d n) _ (λ x so. so) ((tables.create_table_right d).of n) (
-      step name (drop_table.is_for d) (codes "dropTable") (λ x. DropTable x) (drop_table.drop_table d n) _ (λ x so. so) ((tables.drop_table_right d).of n) (
-      step name (rename_table.is_for d) (codes "renameTable") (λ x. RenameTable x) (rename_table.rename_table d n) _ (λ x so. so) ((tables.rename_table_right d).of n) (
-      step name (add_column.is_for d) (codes "addColumn") (λ x. AddColumn x) (add_column.add_column d n) _ (λ x so. so) ((tables.add_column_right d).of n) (
-      step name (drop_column.is_for d) (codes "dropColumn") (λ x. DropColumn x) (drop_column.drop_column d n) _ (λ x so. so) ((columns.drop_column_right d).of n) (
-      step name (rename_column.is_for d) (codes "renameColumn") (λ x. RenameColumn x) (rename_column.rename_column d n) _ (λ x so. so) ((rename_column_right d).of n) (
-      step name (add_not_null.is_for d) (codes "addNotNullConstraint") (λ x. AddNotNullConstraint x) (add_not_null.add_not_null d n) _ (λ x so. so) ((nullable.add_not_null_right d).of n) (
-      step name (drop_not_null.is_for d) (codes "dropNotNullConstraint") (λ x. DropNotNullConstraint x) (drop_not_null.drop_not_null d n) _ (λ x so. so) ((nullable.drop_not_null_right d).of n) (
-      step name (add_default_value.is_for d) (codes "addDefaultValue") (λ x. AddDefaultValue x) (add_default_value.add_default_value d n) _ (λ x so. so) ((columns.add_default_value_right d).of n) (
-      step name (drop_default_value.is_for d) (codes "dropDefaultValue") (λ x. DropDefaultValue x) (drop_default_value.drop_default_value d n) _ (λ x so. so) ((columns.drop_default_value_right d).of n) (
-      key_right name n small))))))))))
-
-  only_right : (es : Option (List (List ℕ × Node))) → IfSome es (IsSo have_small) → IfOk (at_only d es) (IsSo (is_for d))
-  only_right None small = tt
-  only_right (Some []) small = tt
-  only_right (Some (e ∷ [])) small = named_right e.0 e.1 (and_parts (is_small e.1) true small).0
-  only_right (Some (e ∷ f ∷ es)) small = tt
-
-  pub any_right : (n : Node) → is_small n ≡ true → IfOk (any_change d n) (IsSo (is_for d))
-  unfolding any_change
-  any_right n small = only_right (map_of n) (map_small n small)
-
   -- ---- readings of a changeset that follow each other
 
   by_keys_so : {A B : Type 0} (P : A → Type 0) (Q : B → Type 0) (r : Found A) (f : A → Result B SetFault) → IfOk r P → ((a : A) → P a → IfOk (f a) Q) → IfOk (by_keys r f) Q
@@ -169,7 +58,7 @@ module _ (d : Dialect) (spelled : IsSpelled d) where
   change_right : (path : List ℕ) (given : Files) (n : Node) → is_small n ≡ true → IfOk (change_at d path given n) (IsSo (is_for d))
   change_right path given n small = by (load_of n) where
     by : (load : Option Node) → IfOk (change_of d path given n load) (IsSo (is_for d))
-    by None = by_keys_so (IsSo (is_for d)) (IsSo (is_for d)) (within path (any_change d n)) (λ x. Ok x) (within_so (IsSo (is_for d)) path (any_change d n) (any_right n small)) (λ x so. so)
+    by None = by_keys_so (IsSo (is_for d)) (IsSo (is_for d)) (within path (any_change d n)) (λ x. Ok x) (within_so (IsSo (is_for d)) path (any_change d n) (any_right d spelled n small)) (λ x so. so)
     by (Some load) = load_so path given load
 
   from_right : (i : ℕ) (given : Files) (ns : List Node) → are_small ns ≡ true → IfOk (changes_from d i given ns) AreRight
@@ -214,12 +103,12 @@ module _ (d : Dialect) (spelled : IsSpelled d) where
   bad_so P (Err fault) so = tt
 
   sql_so : (text : List ℕ) → IfOk (sql_change d text) (IsSo (is_for d))
-  sql_so text = bad_so (IsSo (is_for d)) (any_change d (sql_node text)) (any_right (sql_node text) (sql_small text))
+  sql_so text = bad_so (IsSo (is_for d)) (any_change d (sql_node text)) (any_right d spelled (sql_node text) (sql_small text))
 
   undoing_right : (n : Node) → is_small n ≡ true → IfOk (undoing d n) (IsSo (is_for d))
   undoing_right n small = by (printed_of n) where
     by : (text : Option (List ℕ)) → IfOk (undoing_by d n text) (IsSo (is_for d))
-    by None = any_right n small
+    by None = any_right d spelled n small
     by (Some text) = sql_so text
 
   undoings_right : (i : ℕ) (ns : List Node) → are_small ns ≡ true → IfOk (items_from (codes "rollback") i (undoing d) ns) AreRight

@@ -15,9 +15,9 @@ use Rattle.lq_expr.specs.Grammar.{parsed, parsed_names}
 use Rattle.lq_expr.specs.Words.{is_blank}
 use Rattle.lq_expr.specs.declared.expr.Expr.{Expr}
 use Rattle.lq_expr.specs.declared.expr.ExprFault.{ExprFault}
-use Rattle.lq_kinds.specs.AnyChange.{canonical_of}
+use Rattle.lq_any.specs.AnyChange.{canonical_of}
 use Rattle.lq_kinds.specs.Changes.{Files, changes_at, here_keys, rollback_keys}
-use Rattle.lq_kinds.specs.declared.any_change.AnyChange.{AnyChange}
+use Rattle.lq_any.specs.declared.any_change.AnyChange.{AnyChange}
 use Rattle.lq_kinds.specs.declared.change_set.ChangeSet.{ChangeSet}
 use Rattle.lq_kinds.specs.declared.context.Context.{Context}
 use Rattle.lq_kinds.specs.declared.context.LabelNames.{LabelNames}

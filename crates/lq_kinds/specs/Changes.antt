@@ -6,9 +6,9 @@ use Rattle.std.specs.Str.{bytes_eq}
 use Rattle.lq_base.specs.declared.dialect.Dialect.{Dialect}
 use Rattle.lq_base.specs.declared.fault.KindFault.TheVariants.{Bad, Missing, NotFor, OutOfMemory, Unknown}
 use Rattle.lq_cond.specs.Kinds.{is_meant, names_in}
-use Rattle.lq_kinds.specs.AnyChange.{any_change}
-use Rattle.lq_kinds.specs.declared.any_change.AnyChange.{AnyChange}
-use Rattle.lq_kinds.specs.declared.any_change.AnyChange.TheVariants.{LoadData, TagDatabase}
+use Rattle.lq_any.specs.AnyChange.{any_change}
+use Rattle.lq_any.specs.declared.any_change.AnyChange.{AnyChange}
+use Rattle.lq_any.specs.declared.any_change.AnyChange.TheVariants.{LoadData, TagDatabase}
 use Rattle.lq_kinds.specs.declared.fault.SetFault.{SetFault}
 use Rattle.lq_kinds.specs.declared.fault.SetFault.TheVariants.{BadPath, InKeys, Wants}
 use Rattle.lq_load.specs.LoadData.{load_data}

@@ -1,4 +1,4 @@
-use crate::any_change::AnyChange;
+use lq_any::AnyChange;
 use lq_base::{Identity, Items, OnFail, Text};
 use lq_cond::Cond;
 use lq_expr::Expr;

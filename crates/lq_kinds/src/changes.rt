@@ -2,12 +2,12 @@ ghost use Rattle.std.specs.List.{list_all, position};
 ghost use Rattle.std.specs.Prelude.{◌≡◌, IfOk, option_copied, true};
 ghost use Rattle.lq_tree.specs.Look.{Reads};
 ghost use Rattle.lq_tree.specs.Items.{item_path};
-ghost use Rattle.lq_kinds.specs.AnyChange.{is_for};
+ghost use Rattle.lq_any.specs.AnyChange.{is_for};
 ghost use Rattle.lq_kinds.specs.Changes.{changes_at, changes_in, here_at, is_read, is_tagging, once_tagged, second_tag, tag_path, ReadsSet};
 
-use crate::any_change::AnyChange;
 use crate::fault::SetFault;
 use crate::loads::each_change;
+use lq_any::AnyChange;
 use lq_base::{Dialect, Items, KindFault, NoMemory, Text};
 use lq_cond::{dialect_names, is_meant};
 use lq_model::SqlText;

@@ -1,7 +1,7 @@
 ghost use Rattle.std.specs.Prelude.{◌≡◌};
 
-use crate::any_change::AnyChange;
 use crate::context::{Context, LabelNames};
+use lq_any::AnyChange;
 use lq_base::{Items, Text};
 use lq_cond::Reaction;
 

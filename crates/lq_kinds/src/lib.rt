@@ -1,7 +1,6 @@
-//! Changes of any type, and the changesets that they stand in.
+//! The changesets that changes of any type stand in.
 #![tactic(auto)]
 
-mod any_change;
 mod change_set;
 mod changes;
 mod context;
@@ -11,16 +10,15 @@ mod heading;
 mod joined;
 mod label;
 mod loads;
-mod named;
 mod readers;
 mod reading;
 mod rollback;
 mod sum;
 
-pub use any_change::AnyChange;
 pub use change_set::{ChangeSet, Changelog};
 pub use changes::here_at;
 pub use count::statement_count;
 pub use fault::SetFault;
 pub use label::is_label;
+pub use lq_any::AnyChange;
 pub use sum::{Sums, sums_of};

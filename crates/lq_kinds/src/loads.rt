@@ -4,12 +4,12 @@ ghost use Rattle.std.specs.Prelude.{◌≡◌, IfOk, [], codes, option_copied, t
 ghost use Rattle.lq_load.specs.LoadData.{is_for as is_load_for, load_data};
 ghost use Rattle.lq_load.specs.LoadKeys.{load_keys};
 ghost use Rattle.lq_tree.specs.Look.{Reads, within};
-ghost use Rattle.lq_kinds.specs.AnyChange.{any_change, is_for};
+ghost use Rattle.lq_any.specs.AnyChange.{any_change, is_for};
 ghost use Rattle.lq_kinds.specs.Changes.{a_load, change_at, changes_from, left_by, load_of, ReadsSet};
 
-use crate::any_change::AnyChange;
 use crate::changes::item_path;
 use crate::fault::SetFault;
+use lq_any::AnyChange;
 use lq_base::{Dialect, Items, KindFault};
 use lq_load::{LoadData, LoadKeys};
 use lq_model::SqlText;

@@ -1,7 +1,7 @@
 ghost use Rattle.std.specs.Prelude.{◌≡◌};
 
-use crate::any_change::AnyChange;
 use crate::rollback::undoing;
+use lq_any::AnyChange;
 use lq_base::{Dialect, KindFault};
 use lq_model::SqlText;
 use lq_tree::{Node, Reader};
@@ -16,7 +16,7 @@ pub struct Undoings<'a, P: SqlText> {
 }
 
 impl<'a, P: SqlText> Reader for Undoings<'a, P> {
-    ghost use Rattle.lq_kinds.specs.AnyChange.{is_for};
+    ghost use Rattle.lq_any.specs.AnyChange.{is_for};
     ghost use Rattle.lq_kinds.specs.Changes.{undoing};
 
     type Read = AnyChange;

@@ -2,7 +2,8 @@ ghost use Rattle.std.specs.List.{list_all};
 ghost use Rattle.std.specs.Prelude.{◌≡◌, IfOk, option_copied, true};
 ghost use Rattle.lq_base.specs.Number.{if_there};
 ghost use Rattle.lq_tree.specs.Look.{Reads};
-ghost use Rattle.lq_kinds.specs.AnyChange.{is_for, is_block_for, is_read_for};
+ghost use Rattle.lq_any.specs.AnyChange.{is_for};
+ghost use Rattle.lq_kinds.specs.ReadFor.{is_block_for, is_read_for};
 ghost use Rattle.lq_kinds.specs.ChangeSets.{ReadsSet, heading, is_quoting, notes, only_known, path_at, path_in, reaction_in, running, selection, set_of, sums_in};
 
 use crate::change_set::ChangeSet;

@@ -2,12 +2,13 @@ ghost use Rattle.std.specs.List.{list_all};
 ghost use Rattle.std.specs.Prelude.{◌≡◌, ◌∷◌, [], IfOk, true};
 ghost use Rattle.lq_tree.specs.Look.{Reads};
 ghost use Rattle.lq_tree.specs.declared.node.Node.{Map as MapNode};
-ghost use Rattle.lq_kinds.specs.AnyChange.{is_for, is_block_for};
+ghost use Rattle.lq_any.specs.AnyChange.{is_for};
+ghost use Rattle.lq_kinds.specs.ReadFor.{is_block_for};
 ghost use Rattle.lq_kinds.specs.Changes.{block, rollback_at, sql_change, sql_node, undoing, undoing_text};
 
-use crate::any_change::AnyChange;
 use crate::changes::is_read;
 use crate::readers::Undoings;
+use lq_any::AnyChange;
 use lq_base::{Dialect, Items, KindFault, NoMemory, Text};
 use lq_model::SqlText;
 use lq_tree::{Node, bad, bad_key, each_item, placed};

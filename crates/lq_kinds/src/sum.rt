@@ -1,9 +1,9 @@
 ghost use Rattle.std.specs.Prelude.{◌≡◌, ◌++◌, IfOk, OnOk, map};
 ghost use Rattle.lq_model.specs.Changes.{IsFinished, canonical_changes, canonical_each};
-ghost use Rattle.lq_kinds.specs.AnyChange.{canonical_of};
+ghost use Rattle.lq_any.specs.AnyChange.{canonical_of};
 ghost use Rattle.lq_kinds.specs.ChangeSets.{old_sum_of, sum_of};
 
-use crate::any_change::AnyChange;
+use lq_any::AnyChange;
 use lq_base::{NoMemory, Text};
 use lq_canon::{BothSums, checksums};
 use lq_model::{Canon, Change};

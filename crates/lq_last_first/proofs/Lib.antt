@@ -1,1 +1,2 @@
+mod Inverted
 mod LastOf

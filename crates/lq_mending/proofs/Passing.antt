@@ -8,7 +8,7 @@ use Rattle.lq_base.specs.Kind.{plain_number}
 use Rattle.lq_base.specs.declared.dialect.Dialect.{Dialect}
 use Rattle.lq_base.specs.declared.tracking.Lock.{Lock}
 use Rattle.lq_expr.specs.declared.options.Options.{Options}
-use Rattle.lq_kinds.specs.declared.any_change.AnyChange.{AnyChange}
+use Rattle.lq_any.specs.declared.any_change.AnyChange.{AnyChange}
 use Rattle.lq_model.specs.Step.{is_statement}
 use Rattle.lq_model.specs.declared.statement.Statement.{Statement}
 use Rattle.lq_report.specs.Mark.{Marked}

@@ -4,7 +4,7 @@ use Rattle.std.specs.Prelude.{List, Option, Some, false, suc, take, true, â„•, â
 use Rattle.laws_repair.specs.Repair.{IsPartly, IsWhole, Mark, by_of, is_mark_text, marked_set, repair_calls, standing}
 use Rattle.lq_base.specs.Name.{identity_text}
 use Rattle.lq_expr.specs.declared.options.Options.{Options}
-use Rattle.lq_kinds.specs.declared.any_change.AnyChange.{AnyChange}
+use Rattle.lq_any.specs.declared.any_change.AnyChange.{AnyChange}
 use Rattle.lq_kinds.specs.declared.change_set.Changelog.{Changelog}
 use Rattle.lq_mending.specs.Undoes.{made_in, sets_in, undo_script}
 use Rattle.lq_track.specs.Database.{Database}

@@ -3,7 +3,7 @@ ghost use Rattle.std.specs.Prelude.{◌≡◌, ◌≤◌, ◌⊎◌, ◌&&◌, [
 ghost use Rattle.laws_repair.specs.Repair.{is_mark_text, text_by, by_of, standing};
 ghost use Rattle.lq_base.specs.Kind.{plain_number};
 ghost use Rattle.lq_base.specs.declared.dialect.Dialect.{Dialect as Spoken};
-ghost use Rattle.lq_kinds.specs.AnyChange.{AreFor, is_read_for};
+ghost use Rattle.lq_kinds.specs.ReadFor.{AreFor, is_read_for};
 ghost use Rattle.lq_mending.specs.Undoes.{IsPart, Passes, invalid, is_of_calls, refusal, refusal_at, set_marked, standing_in, unless_undone, unnamed, unrecorded};
 ghost use Rattle.lq_mending.specs.declared.outcome.RepairFault.TheVariants.{NotReversible, OutOfMemory};
 ghost use Rattle.lq_model.specs.Step.{is_statement};

@@ -1,7 +1,7 @@
 ghost use Rattle.std.specs.List.{list_all};
 ghost use Rattle.std.specs.Prelude.{◌≡◌, ◌≤◌, Err, IfErr, IfOk, None, false, is_some, length, take, true};
 ghost use Rattle.laws_repair.specs.Repair.{repair_calls};
-ghost use Rattle.lq_kinds.specs.AnyChange.{AreFor};
+ghost use Rattle.lq_kinds.specs.ReadFor.{AreFor};
 ghost use Rattle.lq_mending.specs.Mends.{MayRepair, OnLocked, OnMarked};
 ghost use Rattle.lq_mending.specs.Comes.{back_refused};
 ghost use Rattle.lq_mending.specs.Undoes.{Answers, HasSome, IsPart, Made, OnIts, Passes, TellsBy, TellsOf, answer_of, is_of_calls, refusal, undo_script, unrecorded};

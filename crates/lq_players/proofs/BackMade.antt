@@ -18,7 +18,7 @@ use Rattle.lq_players.specs.Reports.{of_account, report_of, rolled_by, rolled_to
 use Rattle.lq_players.specs.Tasks.{answer_by, task_for, stop_back, stop_of, stop_to}
 use Rattle.lq_players.specs.declared.rolling_back.RollingBack.{RollingBack}
 use Rattle.lq_hand.specs.Hand.{place_of}
-use Rattle.lq_kinds.specs.declared.any_change.AnyChange.{AnyChange}
+use Rattle.lq_any.specs.declared.any_change.AnyChange.{AnyChange}
 use Rattle.lq_model.proofs.Lists.{and_left, and_right, and_true}
 use Rattle.lq_model.specs.Catalogue.{Catalogue}
 use Rattle.lq_model.specs.Step.{is_statement}

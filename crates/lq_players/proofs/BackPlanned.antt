@@ -12,7 +12,7 @@ use Rattle.lq_players.specs.RollingBack.{AreNew, Plans, are_read, back_turns, tu
 use Rattle.lq_players.specs.Tasks.{if_not, invalid, unreachable_by}
 use Rattle.lq_players.specs.declared.rolling_back.RollingBack.{RollingBack}
 use Rattle.lq_expr.specs.declared.options.Options.{Options}
-use Rattle.lq_kinds.specs.declared.any_change.AnyChange.{AnyChange}
+use Rattle.lq_any.specs.declared.any_change.AnyChange.{AnyChange}
 use Rattle.lq_playing.specs.declared.checks.Verdict.TheVariants as verdict
 use Rattle.lq_playing.specs.declared.checks.Verdict.{Verdict}
 use Rattle.lq_seen.specs.View.{any_meaning, view_log, views}

@@ -10,7 +10,7 @@ use Rattle.lq_players.specs.declared.rolling_back.RollingBack.{RollingBack}
 use Rattle.lq_hand.specs.Way.{Enters, GivesUp, Looks}
 use Rattle.lq_hand.specs.declared.source.Entered.TheVariants.{NoTurn}
 use Rattle.lq_hand.specs.declared.source.Entered.{Entered}
-use Rattle.lq_kinds.specs.declared.any_change.AnyChange.{AnyChange}
+use Rattle.lq_any.specs.declared.any_change.AnyChange.{AnyChange}
 use Rattle.lq_model.specs.Catalogue.{Catalogue}
 use Rattle.lq_seen.specs.Telling.{Account}
 use Rattle.lq_seen.specs.View.{any_meaning}

@@ -11,7 +11,7 @@ use Rattle.lq_players.specs.Reports.{report_of}
 use Rattle.lq_players.specs.Tasks.{answer_by, refuses, stop_of}
 use Rattle.lq_players.specs.declared.any_command.AnyCommand.{AnyCommand}
 use Rattle.lq_drill.specs.Drill.{Begins, Each, IsNew, IsReady}
-use Rattle.lq_kinds.specs.declared.any_change.AnyChange.{AnyChange}
+use Rattle.lq_any.specs.declared.any_change.AnyChange.{AnyChange}
 use Rattle.lq_model.proofs.Lists.{and_left, and_right, and_true}
 use Rattle.lq_playing.specs.Answers.{as_busy, as_locked, came, only}
 use Rattle.lq_playing.specs.Checked.{Work}

@@ -7,8 +7,8 @@ use Rattle.std.specs.Prelude.{IfSome, List, Option, [], slice_index_or, suc, ℕ
 use Rattle.lq_base.specs.Number.{char_count}
 use Rattle.lq_beside.specs.Replays.{HasTexts}
 use Rattle.lq_expr.specs.declared.options.Options.{Options}
-use Rattle.lq_kinds.specs.declared.any_change.AnyChange.{AnyChange}
-use Rattle.lq_kinds.specs.declared.any_change.AnyChange.TheVariants.{TagDatabase}
+use Rattle.lq_any.specs.declared.any_change.AnyChange.{AnyChange}
+use Rattle.lq_any.specs.declared.any_change.AnyChange.TheVariants.{TagDatabase}
 use Rattle.lq_kinds.specs.declared.change_set.ChangeSet.{ChangeSet}
 use Rattle.lq_kinds.specs.declared.change_set.Changelog.{Changelog}
 use Rattle.lq_seen.specs.View.{tag_by, tag_of, view, view_log}

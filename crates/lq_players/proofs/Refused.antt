@@ -8,7 +8,7 @@ use Rattle.lq_base.specs.declared.dialect.Dialect.{Dialect}
 use Rattle.lq_base.specs.declared.identity.Identity.{Identity}
 use Rattle.lq_base.specs.declared.tracking.Tracked.{Tracked}
 use Rattle.lq_expr.specs.declared.options.Options.{Options}
-use Rattle.lq_kinds.specs.declared.any_change.AnyChange.{AnyChange}
+use Rattle.lq_any.specs.declared.any_change.AnyChange.{AnyChange}
 use Rattle.lq_kinds.specs.declared.change_set.Changelog.{Changelog as Files}
 use Rattle.lq_players.specs.AtOnce.{command_of}
 use Rattle.lq_players.specs.Tasks.{if_halts, if_not, if_some, refuses, task_for, unreachable_by, untagged, work_of}

@@ -21,7 +21,7 @@ use Rattle.lq_hand.specs.Way.{coming_of, no_progress, with_accepted, Way, refuse
 use Rattle.lq_hand.specs.Hand.{calls_left, hand_place, place_of}
 use Rattle.lq_hand.specs.declared.hand.Hand.{Hand}
 use Rattle.lq_hand.specs.declared.progress.Progress.{Progress}
-use Rattle.lq_kinds.specs.declared.any_change.AnyChange.{AnyChange}
+use Rattle.lq_any.specs.declared.any_change.AnyChange.{AnyChange}
 use Rattle.lq_model.proofs.Lists.{and_right}
 use Rattle.lq_model.specs.Catalogue.{Catalogue}
 use Rattle.lq_playing.specs.Answers.{is_failure, came, nothing, only}

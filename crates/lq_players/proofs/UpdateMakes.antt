@@ -22,7 +22,7 @@ use Rattle.lq_hand.specs.Way.{no_progress, Enters, GivesUp, Looks}
 use Rattle.lq_hand.specs.Hand.{calls_left, place_of}
 use Rattle.lq_hand.specs.declared.source.Entered.{Entered}
 use Rattle.lq_hand.specs.declared.source.Entered.TheVariants.{Lack}
-use Rattle.lq_kinds.specs.declared.any_change.AnyChange.{AnyChange}
+use Rattle.lq_any.specs.declared.any_change.AnyChange.{AnyChange}
 use Rattle.lq_model.specs.Catalogue.{Catalogue}
 use Rattle.lq_playing.specs.Answers.{came}
 use Rattle.lq_playing.specs.Checked.{Checked, MakesNone, MakesTurns, Work}

@@ -16,8 +16,8 @@ use Rattle.lq_players.specs.Updating.{ArePlaced, HasPlanned, HasTurns, IsOwn, Is
 use Rattle.lq_players.specs.declared.update_checks.Asked.{Asked}
 use Rattle.lq_players.specs.declared.update_checks.Planned.TheVariants as planned
 use Rattle.lq_players.specs.declared.update_checks.Planned.{Planned}
-use Rattle.lq_kinds.specs.AnyChangeLaws.{does, restores, spelled}
-use Rattle.lq_kinds.specs.declared.any_change.AnyChange.{AnyChange}
+use Rattle.lq_any.specs.AnyChangeLaws.{does, restores, spelled}
+use Rattle.lq_any.specs.declared.any_change.AnyChange.{AnyChange}
 use Rattle.lq_model.specs.Catalogue.{Catalogue}
 use Rattle.lq_model.specs.declared.statement.Statement.{Statement}
 use Rattle.lq_plan.specs.Told.{item_at, work_from}

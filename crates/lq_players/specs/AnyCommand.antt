@@ -8,7 +8,7 @@ use Rattle.lq_base.specs.declared.tracking.Tracked.{Tracked}
 use Rattle.lq_drill.specs.Drill.{Each, IsNew}
 use Rattle.lq_drill.specs.Faults.{is_barred}
 use Rattle.lq_drill.specs.Player.{Standing}
-use Rattle.lq_kinds.specs.declared.any_change.AnyChange.{AnyChange}
+use Rattle.lq_any.specs.declared.any_change.AnyChange.{AnyChange}
 use Rattle.lq_players.specs.AtOnce.{HasShortTag, command_of, once_ends, once_job, once_reports, once_way}
 use Rattle.lq_players.specs.RollingBack.{IsRead, back_ends, back_job, back_reports, back_way, turns_left}
 use Rattle.lq_players.specs.Syncing.{FitColumns, sync_ends, sync_job, sync_reports, sync_way}

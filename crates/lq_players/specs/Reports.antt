@@ -6,7 +6,7 @@ use Rattle.lq_base.specs.declared.identity.Identity.{Identity}
 use Rattle.lq_base.specs.declared.run.Why.{Why}
 use Rattle.lq_base.specs.declared.tracking.Lock.{Lock}
 use Rattle.lq_base.specs.declared.tracking.Tracked.{Tracked}
-use Rattle.lq_kinds.specs.declared.any_change.AnyChange.{AnyChange}
+use Rattle.lq_any.specs.declared.any_change.AnyChange.{AnyChange}
 use Rattle.lq_playing.specs.Answers.{nothing}
 use Rattle.lq_playing.specs.declared.came.Report.{Report}
 use Rattle.lq_seen.specs.Telling.{Account, bounded, of_sets, of_turns}

@@ -8,8 +8,8 @@ use Rattle.lq_base.specs.declared.command.Command.TheVariants.{Rollback}
 use Rattle.lq_base.specs.declared.dialect.Dialect.{Dialect}
 use Rattle.lq_base.specs.declared.tracking.Tracked.{Tracked}
 use Rattle.lq_hand.specs.Way.{Way}
-use Rattle.lq_kinds.specs.AnyChange.{AreFor}
-use Rattle.lq_kinds.specs.declared.any_change.AnyChange.{AnyChange}
+use Rattle.lq_kinds.specs.ReadFor.{AreFor}
+use Rattle.lq_any.specs.declared.any_change.AnyChange.{AnyChange}
 use Rattle.lq_players.specs.Reports.{of_outcome}
 use Rattle.lq_players.specs.Tasks.{answer_by, invalid, task_for, unaware, unreachable_by, work_of}
 use Rattle.lq_players.specs.declared.rolling_back.RollingBack.{RollingBack}

@@ -13,7 +13,7 @@ use Rattle.lq_hand.specs.Hand.{AreTurns, calls_left}
 use Rattle.lq_hand.specs.Way.{Way}
 use Rattle.lq_hand.specs.declared.hand.Hand.{Hand}
 use Rattle.lq_hand.specs.declared.hand.Phase.TheVariants as phase
-use Rattle.lq_kinds.specs.declared.any_change.AnyChange.{AnyChange}
+use Rattle.lq_any.specs.declared.any_change.AnyChange.{AnyChange}
 use Rattle.lq_model.specs.Catalogue.{Catalogue}
 use Rattle.lq_players.specs.Tasks.{answer_by, task_for, work_of}
 use Rattle.lq_players.specs.declared.syncing.Plan.{Plan}

@@ -9,8 +9,8 @@ use Rattle.lq_base.specs.declared.run.Why.{Why}
 use Rattle.lq_base.specs.declared.tracking.Tracked.{Tracked}
 use Rattle.lq_beside.specs.Replays.{HasTexts}
 use Rattle.lq_hand.specs.Way.{Way}
-use Rattle.lq_kinds.specs.AnyChange.{AreFor}
-use Rattle.lq_kinds.specs.declared.any_change.AnyChange.{AnyChange}
+use Rattle.lq_kinds.specs.ReadFor.{AreFor}
+use Rattle.lq_any.specs.declared.any_change.AnyChange.{AnyChange}
 use Rattle.lq_model.specs.Catalogue.{Catalogue}
 use Rattle.lq_players.specs.Reports.{of_outcome, own_warned}
 use Rattle.lq_players.specs.RollingBack.{Refuses}

@@ -12,7 +12,7 @@ ghost use Rattle.lq_players.specs.AnyCommand.{IsUnstarted, Starts, command_stand
 ghost use Rattle.lq_players.specs.AtOnce.{HasShortTag, command_of};
 ghost use Rattle.lq_players.specs.Tasks.{task_for, work_of};
 ghost use Rattle.lq_drill.specs.declared.fault.DrillFault.TheVariants as drill;
-ghost use Rattle.lq_kinds.specs.AnyChange.{AreFor};
+ghost use Rattle.lq_kinds.specs.ReadFor.{AreFor};
 ghost use Rattle.lq_outside.specs.Forms.{Rose};
 ghost use Rattle.lq_playing.specs.Playing.{Took};
 ghost use Rattle.lq_run.specs.Stands.{IsHeld};

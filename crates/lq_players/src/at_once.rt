@@ -213,7 +213,7 @@ fn asks_for_lock(command: &OneStep) -> bool
 }
 
 impl Source for AtOnce {
-    ghost use Rattle.lq_kinds.specs.declared.any_change.AnyChange.{AnyChange};
+    ghost use Rattle.lq_any.specs.declared.any_change.AnyChange.{AnyChange};
     ghost use Rattle.lq_players.specs.AtOnce.{HasShortTag, command_of, once_way};
     ghost use Rattle.lq_seen.specs.View.{any_meaning};
     ghost use Rattle.lq_turns.specs.Rest.{NoMore};

@@ -3,7 +3,7 @@ ghost use Rattle.lq_players.specs.AnyCommand.{IsUnstarted, command_stands, Begin
 ghost use Rattle.lq_drill.specs.Drill.{Each, EndsAs, FailsBy, IsDrilled, IsDrilledUntil, IsFaultless, IsSerialDrill, LeftAtEnd, LeftInDrill};
 ghost use Rattle.lq_drill.specs.Player.{HasMet};
 ghost use Rattle.lq_drill.specs.declared.fault.DrillFault.TheVariants as fault;
-ghost use Rattle.lq_kinds.specs.declared.any_change.AnyChange.{AnyChange};
+ghost use Rattle.lq_any.specs.declared.any_change.AnyChange.{AnyChange};
 ghost use Rattle.lq_outside.specs.Forms.{Rose};
 ghost use Rattle.lq_playing.specs.Answers.{as_failed};
 ghost use Rattle.lq_store.specs.Journal.{CrashesLeave};

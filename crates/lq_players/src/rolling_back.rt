@@ -5,7 +5,7 @@ ghost use Rattle.lq_base.specs.declared.dialect.Dialect.{Dialect as Kind};
 ghost use Rattle.lq_players.specs.RollingBack.{AreNew, IsRead, ComesTo, Plans, back_job, back_turns, turns_in, IsRefusal, Passes};
 ghost use Rattle.lq_players.specs.Tasks.{if_not, task_for, unreachable_by, work_of};
 ghost use Rattle.lq_expr.specs.declared.options.Options.{Options as Asked};
-ghost use Rattle.lq_kinds.specs.AnyChange.{AreFor};
+ghost use Rattle.lq_kinds.specs.ReadFor.{AreFor};
 ghost use Rattle.lq_playing.specs.declared.checks.Verdict.TheVariants as verdict;
 ghost use Rattle.lq_seen.specs.View.{any_meaning, view_log, views};
 ghost use Rattle.lq_track.specs.Database.{Database};
@@ -206,7 +206,7 @@ fn first_verdict(alloc: Global, turns: &Option<RowTurns>) -> Verdict
 }
 
 impl Source for RollingBack {
-    ghost use Rattle.lq_kinds.specs.declared.any_change.AnyChange.{AnyChange};
+    ghost use Rattle.lq_any.specs.declared.any_change.AnyChange.{AnyChange};
     ghost use Rattle.lq_players.specs.RollingBack.{IsRead, back_way, turns_left};
     ghost use Rattle.lq_seen.specs.Telling.{Account};
     ghost use Rattle.lq_seen.specs.View.{any_meaning};

@@ -193,7 +193,7 @@ fn answer_at(
 }
 
 impl Source for Syncing {
-    ghost use Rattle.lq_kinds.specs.declared.any_change.AnyChange.{AnyChange};
+    ghost use Rattle.lq_any.specs.declared.any_change.AnyChange.{AnyChange};
     ghost use Rattle.lq_players.specs.Syncing.{FitColumns, sync_way};
     ghost use Rattle.lq_seen.specs.View.{any_meaning};
     ghost use Rattle.lq_turns.specs.Rest.{NoMore};

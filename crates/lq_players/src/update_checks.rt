@@ -1,5 +1,5 @@
 ghost use Rattle.std.specs.Prelude.{◌≡◌, [], Err, IfErr, IfOk, false};
-ghost use Rattle.lq_kinds.specs.AnyChange.{AreFor};
+ghost use Rattle.lq_kinds.specs.ReadFor.{AreFor};
 ghost use Rattle.lq_players.specs.Reports.{own_warned, warned_by};
 ghost use Rattle.lq_players.specs.RollingBack.{IsRefusal, Refuses};
 ghost use Rattle.lq_players.specs.Tasks.{if_halts, own_halt};

@@ -5,7 +5,7 @@ ghost use Rattle.lq_base.specs.declared.dialect.Dialect.{Dialect as Kind};
 ghost use Rattle.lq_beside.specs.Replays.{HasTexts};
 ghost use Rattle.lq_players.specs.Tasks.{task_for, work_of};
 ghost use Rattle.lq_players.specs.Updating.{Follows, IsUpdateFor, TakesTurns, update_job};
-ghost use Rattle.lq_kinds.specs.AnyChange.{AreFor};
+ghost use Rattle.lq_kinds.specs.ReadFor.{AreFor};
 ghost use Rattle.lq_seen.specs.View.{view_log};
 ghost use Rattle.lq_turns.specs.declared.stamp.Stamp.{Stamp as Clocked};
 
@@ -86,7 +86,7 @@ impl Updating {
 }
 
 impl Source for Updating {
-    ghost use Rattle.lq_kinds.specs.declared.any_change.AnyChange.{AnyChange};
+    ghost use Rattle.lq_any.specs.declared.any_change.AnyChange.{AnyChange};
     ghost use Rattle.lq_players.specs.Updating.{IsUpdateFor, update_left, update_way};
     ghost use Rattle.lq_seen.specs.Telling.{Account};
     ghost use Rattle.lq_seen.specs.View.{any_meaning};

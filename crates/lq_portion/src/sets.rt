@@ -2,7 +2,7 @@ ghost use Rattle.std.specs.List.{All};
 ghost use Rattle.std.specs.Prelude.{◌≡◌};
 ghost use Rattle.lq_base.specs.declared.dialect.Dialect.{Dialect};
 ghost use Rattle.lq_changelog.specs.Gathers.{HasShortTexts};
-ghost use Rattle.lq_kinds.specs.AnyChange.{AreFor};
+ghost use Rattle.lq_kinds.specs.ReadFor.{AreFor};
 ghost use Rattle.lq_portion.specs.Portion.{first_sets, through};
 
 use lq_base::cut;

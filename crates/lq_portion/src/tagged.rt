@@ -2,7 +2,7 @@ ghost use Rattle.std.specs.List.{All, position};
 ghost use Rattle.std.specs.Prelude.{◌≡◌, IfSome};
 ghost use Rattle.lq_base.specs.declared.dialect.Dialect.{Dialect};
 ghost use Rattle.lq_changelog.specs.Gathers.{HasShortTexts};
-ghost use Rattle.lq_kinds.specs.AnyChange.{AreFor};
+ghost use Rattle.lq_kinds.specs.ReadFor.{AreFor};
 ghost use Rattle.lq_portion.specs.Portion.{sets_tag, up_to_tag};
 ghost use Rattle.lq_seen.specs.View.{tag_of};
 ghost use Rattle.lq_turns.specs.Script.{has_tag};

@@ -8,7 +8,7 @@ use Rattle.lq_base.specs.declared.command.Target.TheVariants.{Count}
 use Rattle.lq_base.specs.declared.command.Target.{Target}
 use Rattle.lq_base.specs.declared.dialect.Dialect.{Dialect}
 use Rattle.lq_base.specs.declared.tracking.Tracked.{Tracked}
-use Rattle.lq_kinds.specs.AnyChange.{AreFor}
+use Rattle.lq_kinds.specs.ReadFor.{AreFor}
 use Rattle.lq_model.proofs.Lists.{and_left, and_right, and_true}
 use Rattle.lq_model.specs.Catalogue.{Catalogue}
 use Rattle.lq_model.specs.Sound.{IsSound}

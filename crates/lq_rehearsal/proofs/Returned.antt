@@ -9,7 +9,7 @@ use Rattle.lq_base.specs.declared.dialect.Dialect.{Dialect}
 use Rattle.lq_base.specs.declared.identity.Identity.{Identity}
 use Rattle.lq_base.specs.declared.tracking.Lock.{Lock}
 use Rattle.lq_base.specs.declared.tracking.Tracked.{Tracked}
-use Rattle.lq_kinds.specs.AnyChange.{AreFor}
+use Rattle.lq_kinds.specs.ReadFor.{AreFor}
 use Rattle.lq_model.specs.Sound.{IsSound}
 use Rattle.lq_seen.specs.Telling.{Account, of_turns}
 use Rattle.lq_seen.specs.View.{any_meaning}

@@ -1,7 +1,7 @@
 -- What two runs tell together.
 use Rattle.std.specs.Prelude.{Bool, IfOk, List, None, Option, Result, [], false, option_and_then, option_map, true, ℕ, ◌++◌, ◌≡◌}
 use Rattle.lq_base.specs.declared.dialect.Dialect.{Dialect}
-use Rattle.lq_bound.specs.Bound.{first_bound}
+use Rattle.lq_back.specs.Bound.{first_bound}
 use Rattle.lq_commands.specs.Refusals.{Answers}
 use Rattle.lq_commands.specs.Rehearsal.{EndsRun, Run, rehearsal_script, rehearsed}
 use Rattle.lq_commands.specs.Scripts.{log_in, sets_in, settled_in, update_script}

@@ -4,7 +4,7 @@ ghost use Rattle.lq_base.specs.Number.{char_count};
 ghost use Rattle.lq_changelog.specs.Gathers.{HasShortTexts};
 ghost use Rattle.lq_commands.specs.Jobs.{DidJob, is_on_store, job_tag};
 ghost use Rattle.lq_commands.specs.Works.{IsReady};
-ghost use Rattle.lq_kinds.specs.AnyChange.{AreFor};
+ghost use Rattle.lq_kinds.specs.ReadFor.{AreFor};
 ghost use Rattle.lq_outside.specs.Forms.{Rose};
 ghost use Rattle.lq_tell.specs.declared.status.Status.TheVariants.{DiskFault};
 ghost use Rattle.lq_turns.specs.Stops.{is_mark};

@@ -7,7 +7,7 @@ ghost use Rattle.lq_commands.specs.Refusals.{unready};
 ghost use Rattle.lq_commands.specs.Rehearsal.{after_update, takes_back, unrehearsed, updates_again};
 ghost use Rattle.lq_rehearsal.specs.Returns.{DidRun};
 ghost use Rattle.lq_commands.specs.Works.{IsReady, OnIts};
-ghost use Rattle.lq_kinds.specs.AnyChange.{AreFor};
+ghost use Rattle.lq_kinds.specs.ReadFor.{AreFor};
 ghost use Rattle.lq_outside.specs.Forms.{Rose};
 ghost use Rattle.lq_tell.specs.declared.status.Status.TheVariants.{DiskFault};
 ghost use Rattle.lq_turns.specs.Stops.{is_mark};

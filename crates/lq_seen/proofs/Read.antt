@@ -3,7 +3,8 @@ use Rattle.std.proofs.Common.{refl, subst, ◌≡◌, Bool, true, List, [], ◌�
 use Rattle.std.specs.List.{list_all, slice_get}
 use Rattle.lq_base.specs.declared.dialect.Dialect.{Dialect}
 use Rattle.lq_expr.specs.declared.options.Options.{Options}
-use Rattle.lq_kinds.specs.AnyChange.{is_for, is_read_for}
+use Rattle.lq_any.specs.AnyChange.{is_for}
+use Rattle.lq_kinds.specs.ReadFor.{is_read_for}
 use Rattle.lq_kinds.specs.declared.change_set.ChangeSet.{ChangeSet}
 use Rattle.lq_model.proofs.Lists.{and_left, and_right, and_true}
 use Rattle.lq_seen.specs.View.{ViewsAreRead, any_meaning, views}

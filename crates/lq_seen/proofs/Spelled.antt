@@ -2,9 +2,9 @@
 use Rattle.std.proofs.Common.{refl, ◌≡◌, true, List, [], ◌∷◌}
 use Rattle.std.specs.List.{list_all}
 use Rattle.lq_base.specs.declared.dialect.Dialect.{Dialect}
-use Rattle.lq_kinds.specs.AnyChange.{gives, is_for}
-use Rattle.lq_kinds.specs.AnyChangeLaws.{spelled}
-use Rattle.lq_kinds.specs.declared.any_change.AnyChange.{AnyChange}
+use Rattle.lq_any.specs.AnyChange.{gives, is_for}
+use Rattle.lq_any.specs.AnyChangeLaws.{spelled}
+use Rattle.lq_any.specs.declared.any_change.AnyChange.{AnyChange}
 use Rattle.lq_model.proofs.Lists.{all-append, and_left, and_right}
 use Rattle.lq_model.specs.Step.{is_statement}
 use Rattle.lq_seen.specs.View.{any_meaning}

@@ -10,9 +10,10 @@ use Rattle.lq_cond.specs.declared.cond.Cond.{Cond}
 use Rattle.lq_expr.specs.Spelled.{holds}
 use Rattle.lq_expr.specs.declared.expr.Expr.{Expr}
 use Rattle.lq_expr.specs.declared.options.Options.{Options}
-use Rattle.lq_kinds.specs.AnyChange.{AreFor, canonical_of, effect, gives, inverse, is_for, is_fresh}
-use Rattle.lq_kinds.specs.declared.any_change.AnyChange.{AnyChange}
-use Rattle.lq_kinds.specs.declared.any_change.AnyChange.TheVariants.{TagDatabase}
+use Rattle.lq_any.specs.AnyChange.{canonical_of, effect, gives, inverse, is_for, is_fresh}
+use Rattle.lq_kinds.specs.ReadFor.{AreFor}
+use Rattle.lq_any.specs.declared.any_change.AnyChange.{AnyChange}
+use Rattle.lq_any.specs.declared.any_change.AnyChange.TheVariants.{TagDatabase}
 use Rattle.lq_kinds.specs.declared.change_set.ChangeSet.{ChangeSet}
 use Rattle.lq_kinds.specs.declared.change_set.Changelog.{Changelog}
 use Rattle.lq_model.specs.Step.{is_statement}

@@ -1,19 +1,50 @@
 ghost use Rattle.std.specs.List.{list_all};
 ghost use Rattle.std.specs.Prelude.{◌≡◌, IfOk, true};
 ghost use Rattle.lq_expr.specs.declared.options.Options.{Options};
-ghost use Rattle.lq_kinds.specs.AnyChange.{is_for, is_read_for};
+ghost use Rattle.lq_any.specs.AnyChange.{is_for};
+ghost use Rattle.lq_kinds.specs.ReadFor.{is_read_for};
 ghost use Rattle.lq_turns.specs.Set.{inverses, undoing};
 ghost use Rattle.lq_seen.specs.View.{any_meaning, view};
 
 use crate::turn::statements_of;
 use lq_base::{Dialect, Items, NoMemory};
 use lq_kinds::{AnyChange, ChangeSet};
+use lq_last_first::{Inverts, inverses};
 use lq_model::{Change, Statement, Undo};
 use std::alloc::Global;
 
+// Takes changes back that were read for the dialect.
+#[derive(Clone, Copy)]
+struct Generating {
+    dialect: Dialect,
+}
+
+impl Inverts for Generating {
+    ghost use Rattle.lq_any.specs.AnyChange.{inverse, is_for};
+
+    type Thing = AnyChange;
+
+    type Step = Statement;
+
+    ghost knows = { λ by. is_for by.dialect };
+
+    ghost inverse = { λ by. inverse by.dialect };
+
+    fn invert(
+        &self,
+        alloc: Global,
+        change: &AnyChange,
+    ) -> Result<Option<Items<Statement>>, NoMemory> {
+        let Undo::Generated(more) = change.undo(alloc, self.dialect)? else {
+            return Ok(None);
+        };
+        Ok(Some(more))
+    }
+}
+
 /// What is generated to take the changes back, the last change first. `None` where nothing is
 /// generated for one of them.
-fn inverses(
+fn generated(
     alloc: Global,
     dialect: Dialect,
     changes: &[AnyChange],
@@ -21,16 +52,8 @@ fn inverses(
     requires read { list_all (is_for dialect) changes.now ≡ true }
     ensures { IfOk result (λ made. made ≡ inverses dialect any_meaning changes.now) }
 {
-    let mut statements = Items::new(alloc);
-    let mut rest = changes;
-    while let Some((change, front)) = rest.split_last() {
-        let Undo::Generated(more) = change.undo(alloc, dialect)? else {
-            return Ok(None);
-        };
-        statements.append(more)?;
-        rest = front;
-    }
-    Ok(Some(statements))
+    let made = inverses(alloc, &Generating { dialect }, changes)?;
+    Ok(made)
 }
 
 /// The statements that take back the changeset, which was read for the dialect (Liquibase's
@@ -53,7 +76,7 @@ pub fn undoing(
             Ok(Some(statements))
         }
         None => {
-            let statements = inverses(alloc, dialect, set.changes.as_slice())?;
+            let statements = generated(alloc, dialect, set.changes.as_slice())?;
             Ok(statements)
         }
     }

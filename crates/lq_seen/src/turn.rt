@@ -2,7 +2,7 @@ ghost use Rattle.std.specs.List.{list_all};
 ghost use Rattle.std.specs.Prelude.{◌≡◌, ◌≤◌, IfOk, List, true};
 ghost use Rattle.lq_base.specs.declared.tracking.Tracked.{Tracked as Row};
 ghost use Rattle.lq_expr.specs.declared.options.Options.{Options};
-ghost use Rattle.lq_kinds.specs.AnyChange.{is_for};
+ghost use Rattle.lq_any.specs.AnyChange.{is_for};
 ghost use Rattle.lq_turns.specs.Set.{statements_of};
 ghost use Rattle.lq_turns.specs.Settle.{exec_of, fill_turn, greatest, mark_turn, row_turn, run_turn};
 ghost use Rattle.lq_seen.specs.View.{turn_of, any_meaning, view};

@@ -2,8 +2,8 @@
 use Rattle.std.proofs.Common.{ap, arith, sym, refl, ◌≡◌, ◌<◌, ◌∙◌, ◌+◌, ◌-◌, ◌++◌, ◌∷◌, List, [], None, Option, Some, length, reverse, suc, zero, ℕ}
 use Rattle.std.proofs.lemmas.List.{append-nil, append_assoc, reverse-append}
 use Rattle.lq_base.specs.declared.dialect.Dialect.{Dialect}
-use Rattle.lq_kinds.specs.AnyChange.{gives}
-use Rattle.lq_kinds.specs.declared.any_change.AnyChange.{AnyChange}
+use Rattle.lq_any.specs.AnyChange.{gives}
+use Rattle.lq_any.specs.declared.any_change.AnyChange.{AnyChange}
 use Rattle.lq_seen.proofs.Leading.{none_plus, plus_none}
 use Rattle.lq_sets.specs.Counting.{after_first, begins_at, begins_from, begins_none, first_of}
 

@@ -5,7 +5,7 @@ use Rattle.std.proofs.lemmas.List.{length-map, reverse-append}
 use Rattle.std.specs.List.{list_all}
 use Rattle.lq_base.specs.declared.tracking.Tracked.{Tracked}
 use Rattle.lq_expr.specs.declared.options.Options.{Options}
-use Rattle.lq_kinds.specs.declared.any_change.AnyChange.{AnyChange}
+use Rattle.lq_any.specs.declared.any_change.AnyChange.{AnyChange}
 use Rattle.lq_kinds.specs.declared.change_set.ChangeSet.{ChangeSet}
 use Rattle.lq_model.proofs.Lists.{all-append, all-append_left, all-append_right, and_left, and_true}
 use Rattle.lq_plan.specs.Told.{item_at, work, work_from}

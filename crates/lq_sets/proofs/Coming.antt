@@ -13,9 +13,10 @@ use Rattle.lq_hand.proofs.Expected.{HoldsAtEnd, turn_expected}
 use Rattle.lq_hand.specs.Way.{no_progress, rest_at, Expects, refusal_at_end, refused_in, seen_along}
 use Rattle.lq_hand.specs.Hand.{calls_left, hand_place, place_of}
 use Rattle.lq_hand.specs.declared.hand.Hand.{Hand}
-use Rattle.lq_kinds.specs.AnyChange.{is_for, is_block_for, is_read_for}
-use Rattle.lq_kinds.specs.AnyChangeLaws.{does, restores, spelled}
-use Rattle.lq_kinds.specs.declared.any_change.AnyChange.{AnyChange}
+use Rattle.lq_any.specs.AnyChange.{is_for}
+use Rattle.lq_kinds.specs.ReadFor.{is_block_for, is_read_for}
+use Rattle.lq_any.specs.AnyChangeLaws.{does, restores, spelled}
+use Rattle.lq_any.specs.declared.any_change.AnyChange.{AnyChange}
 use Rattle.lq_kinds.specs.declared.change_set.ChangeSet.{ChangeSet}
 use Rattle.lq_model.proofs.Lists.{and_left}
 use Rattle.lq_model.specs.Catalogue.{Catalogue}

@@ -9,10 +9,10 @@ use Rattle.lq_beside.proofs.Tests.{table_same}
 use Rattle.lq_beside.proofs.Words.{free_name}
 use Rattle.lq_beside.specs.Beside.{users}
 use Rattle.lq_hand.specs.Way.{seen_along}
-use Rattle.lq_kinds.specs.AnyChange.{effect, gives, is_for, is_fresh}
-use Rattle.lq_kinds.specs.AnyChangeLaws.{does, spelled}
-use Rattle.lq_kinds.specs.declared.any_change.AnyChange.{AnyChange}
-use Rattle.lq_kinds.specs.declared.any_change.AnyChange.TheVariants.{AddDefaultValue, AddNotNullConstraint, AddPrimaryKey, CreateView, DropNotNullConstraint}
+use Rattle.lq_any.specs.AnyChange.{effect, gives, is_for, is_fresh}
+use Rattle.lq_any.specs.AnyChangeLaws.{does, spelled}
+use Rattle.lq_any.specs.declared.any_change.AnyChange.{AnyChange}
+use Rattle.lq_any.specs.declared.any_change.AnyChange.TheVariants.{AddDefaultValue, AddNotNullConstraint, AddPrimaryKey, CreateView, DropNotNullConstraint}
 use Rattle.lq_kinds.specs.declared.change_set.ChangeSet.{ChangeSet}
 use Rattle.lq_model.proofs.Decide.{accepted}
 use Rattle.lq_model.proofs.Effects.{ran_both, ran_first, run_keeps}

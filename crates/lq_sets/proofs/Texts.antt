@@ -7,8 +7,8 @@ use Rattle.lq_base.specs.declared.run.Did.{Did}
 use Rattle.lq_base.specs.declared.run.Did.TheVariants as did
 use Rattle.lq_base.specs.declared.run.Printed.{Printed}
 use Rattle.lq_base.specs.declared.run.Why.{Why}
-use Rattle.lq_kinds.specs.AnyChange.{is_for}
-use Rattle.lq_kinds.specs.declared.any_change.AnyChange.{AnyChange}
+use Rattle.lq_any.specs.AnyChange.{is_for}
+use Rattle.lq_any.specs.declared.any_change.AnyChange.{AnyChange}
 use Rattle.lq_model.specs.declared.statement.Statement.{Statement}
 use Rattle.lq_seen.specs.Telling.{shown, with_texts}
 use Rattle.lq_seen.specs.View.{any_meaning}

@@ -10,7 +10,7 @@ use Rattle.lq_base.specs.declared.tracking.Exec.TheVariants as exec
 use Rattle.lq_base.specs.declared.tracking.Tracked.{Tracked}
 use Rattle.lq_expr.specs.declared.options.Options.{Options}
 use Rattle.lq_hand.specs.Hand.{IsWritable}
-use Rattle.lq_kinds.specs.AnyChange.{is_for}
+use Rattle.lq_any.specs.AnyChange.{is_for}
 use Rattle.lq_kinds.specs.declared.change_set.ChangeSet.{ChangeSet}
 use Rattle.lq_model.proofs.Lists.{and_right}
 use Rattle.lq_model.specs.Step.{is_statement}

@@ -6,7 +6,7 @@ use Rattle.lq_base.specs.declared.identity.Identity.{Identity}
 use Rattle.lq_base.specs.declared.run.Happened.{Happened}
 use Rattle.lq_base.specs.declared.run.Printed.{Printed}
 use Rattle.lq_hand.specs.Way.{GivesUp, Looks, Way}
-use Rattle.lq_kinds.specs.declared.any_change.AnyChange.{AnyChange}
+use Rattle.lq_any.specs.declared.any_change.AnyChange.{AnyChange}
 use Rattle.lq_model.specs.Catalogue.{Catalogue}
 use Rattle.lq_seen.proofs.Leading.{bounded_right, leads_same, plus_none}
 use Rattle.lq_sets.proofs.Stale.{first_alike}

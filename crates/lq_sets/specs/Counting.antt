@@ -7,8 +7,8 @@ use Rattle.lq_cond.specs.Told.{told}
 use Rattle.lq_cond.specs.declared.cond.Cond.{Cond}
 use Rattle.lq_cond.specs.declared.condition.Condition.{Condition}
 use Rattle.lq_cond.specs.declared.condition.Condition.TheVariants.{ChangeSetExecuted}
-use Rattle.lq_kinds.specs.AnyChange.{gives, is_fresh}
-use Rattle.lq_kinds.specs.declared.any_change.AnyChange.{AnyChange}
+use Rattle.lq_any.specs.AnyChange.{gives, is_fresh}
+use Rattle.lq_any.specs.declared.any_change.AnyChange.{AnyChange}
 use Rattle.lq_kinds.specs.declared.change_set.ChangeSet.{ChangeSet}
 use Rattle.lq_model.specs.Catalogue.{Catalogue}
 use Rattle.lq_seen.specs.Telling.{bounded}

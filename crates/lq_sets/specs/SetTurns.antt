@@ -10,8 +10,8 @@ use Rattle.lq_expr.specs.declared.options.Options.{Options}
 use Rattle.lq_hand.specs.Hand.{calls_left, place_of}
 use Rattle.lq_hand.specs.Way.{Expects, IsTurn, Way, no_progress, refusal_at_end, refused_in, rest_at}
 use Rattle.lq_hand.specs.declared.hand.Hand.{Hand}
-use Rattle.lq_kinds.specs.AnyChange.{AreFor}
-use Rattle.lq_kinds.specs.declared.any_change.AnyChange.{AnyChange}
+use Rattle.lq_kinds.specs.ReadFor.{AreFor}
+use Rattle.lq_any.specs.declared.any_change.AnyChange.{AnyChange}
 use Rattle.lq_kinds.specs.declared.change_set.ChangeSet.{ChangeSet}
 use Rattle.lq_model.specs.Catalogue.{Catalogue}
 use Rattle.lq_plan.specs.Told.{work_from}

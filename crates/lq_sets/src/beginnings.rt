@@ -1,6 +1,6 @@
 ghost use Rattle.std.specs.List.{list_all};
 ghost use Rattle.std.specs.Prelude.{◌≡◌, ◌++◌, IfOk, OnOk, reverse, true};
-ghost use Rattle.lq_kinds.specs.AnyChange.{is_for};
+ghost use Rattle.lq_any.specs.AnyChange.{is_for};
 ghost use Rattle.lq_sets.specs.Counting.{after_first, begins_at, begins_from, begins_none, first_of};
 
 use lq_base::{Dialect, Items, NoMemory};

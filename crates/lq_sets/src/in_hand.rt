@@ -1,6 +1,6 @@
 ghost use Rattle.std.specs.List.{list_all};
 ghost use Rattle.std.specs.Prelude.{◌≡◌, ◌+◌, IfOk, Some, slice_get, true};
-ghost use Rattle.lq_kinds.specs.AnyChange.{is_for};
+ghost use Rattle.lq_any.specs.AnyChange.{is_for};
 ghost use Rattle.lq_seen.specs.Telling.{bounded};
 ghost use Rattle.lq_sets.specs.Counting.{HasLooked, changes_run, runs, stale_at, stale_one};
 ghost use Rattle.lq_sets.specs.SetTurns.{IsOf};

@@ -3,7 +3,7 @@ ghost use Rattle.std.specs.Prelude.{◌≡◌, ◌≤◌, ◌++◌, ◌&&◌, �
 ghost use Rattle.lq_base.specs.declared.tracking.Tracked.{Tracked as Row};
 ghost use Rattle.lq_expr.specs.declared.options.Options.{Options};
 ghost use Rattle.lq_hand.specs.Hand.{IsWritable};
-ghost use Rattle.lq_kinds.specs.AnyChange.{is_for};
+ghost use Rattle.lq_any.specs.AnyChange.{is_for};
 ghost use Rattle.lq_model.specs.Step.{is_statement};
 ghost use Rattle.lq_seen.specs.Telling.{with_texts};
 ghost use Rattle.lq_sets.specs.Counting.{runs};

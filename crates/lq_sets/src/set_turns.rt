@@ -2,7 +2,8 @@ ghost use Rattle.std.specs.List.{list_all};
 ghost use Rattle.std.specs.Prelude.{◌≡◌, ◌≤◌, ◌<◌, ◌+◌, ◌++◌, [], IfOk, List, None, OnErr, length, reverse, true};
 ghost use Rattle.lq_base.specs.declared.run.Printed.{Printed as Shown};
 ghost use Rattle.lq_expr.specs.declared.options.Options.{Options as Given};
-ghost use Rattle.lq_kinds.specs.AnyChange.{is_for, AreFor};
+ghost use Rattle.lq_any.specs.AnyChange.{is_for};
+ghost use Rattle.lq_kinds.specs.ReadFor.{AreFor};
 ghost use Rattle.lq_plan.specs.Told.{work};
 ghost use Rattle.lq_sets.specs.Counting.{HasLooked, changes_before, counted_in};
 ghost use Rattle.lq_sets.specs.SetTurns.{CameBy, CameTo, IsKeptBy, IsReadFor, KeepsTexts, Knows, has_turn, if_kept, sets_left};
@@ -333,7 +334,7 @@ fn look_at<K: Look>(
 }
 
 impl Source for SetTurns {
-    ghost use Rattle.lq_kinds.specs.declared.any_change.AnyChange.{AnyChange};
+    ghost use Rattle.lq_any.specs.declared.any_change.AnyChange.{AnyChange};
     ghost use Rattle.lq_sets.specs.SetTurns.{IsReadFor, set_way, sets_left};
     ghost use Rattle.lq_seen.specs.Telling.{Account};
     ghost use Rattle.lq_seen.specs.View.{any_meaning};

@@ -13,7 +13,7 @@ use Rattle.lq_commands.specs.Works.{is_finished}
 use Rattle.lq_commands.specs.declared.given.Given.{Given}
 use Rattle.lq_entries.specs.Log.{entries_in}
 use Rattle.lq_drill.specs.Faults.{answer_of, freed, HadRoom, room_of_entry as room_in_drill}
-use Rattle.lq_kinds.specs.declared.any_change.AnyChange.{AnyChange}
+use Rattle.lq_any.specs.declared.any_change.AnyChange.{AnyChange}
 use Rattle.lq_model.specs.declared.caller.Room.{Room}
 use Rattle.lq_playing.specs.Checked.{Work}
 use Rattle.lq_players.specs.AnyCommand.{works}

@@ -12,7 +12,7 @@ use Rattle.lq_commands.specs.Refusals.{if_halts, if_not, if_some, invalid, no_wa
 use Rattle.lq_commands.specs.Scripts.{log_in, nothing_told, rollback_to, rolled_to, script, sets_in}
 use Rattle.lq_commands.specs.Works.{status_by, is_finished}
 use Rattle.lq_commands.specs.declared.given.Given.{Given}
-use Rattle.lq_kinds.specs.declared.any_change.AnyChange.{AnyChange}
+use Rattle.lq_any.specs.declared.any_change.AnyChange.{AnyChange}
 use Rattle.lq_players.specs.Tasks.{answer_by, if_halts as halts_answer, if_not as not_answer, if_some as some_answer, invalid as invalid_answer, own_halt as own_answer, refuses, stop_back, stop_of, stop_to, task_for, unreachable_by as unreachable_answer, untagged as untagged_answer}
 use Rattle.lq_seen.specs.Telling.{Account, of_turns}
 use Rattle.lq_seen.specs.View.{any_meaning}

@@ -7,7 +7,7 @@ use Rattle.lq_entries.specs.Log.{crashes_in, entries_in, if_undamaged}
 use Rattle.lq_drill.specs.Drill.{HasFaulted as PlayerFaulted, LeftInDrill}
 use Rattle.lq_drill.specs.Faults.{Comes, FreesEarly, entries_of}
 use Rattle.lq_frames.specs.Body.{journal_of}
-use Rattle.lq_kinds.specs.declared.any_change.AnyChange.{AnyChange}
+use Rattle.lq_any.specs.declared.any_change.AnyChange.{AnyChange}
 use Rattle.lq_outside.specs.Crash.{Crashes as DiskCrashes, IsSound, LeavesOnly}
 use Rattle.lq_playing.specs.Answers.{as_busy, as_failed, as_locked}
 use Rattle.lq_playing.specs.declared.came.Came.{Came}

@@ -4,7 +4,7 @@ use Rattle.std.specs.Option.{option_map}
 use Rattle.std.specs.Prelude.{Bool, List, Option, [], ℕ, ◌++◌}
 use Rattle.lq_base.specs.declared.dialect.Dialect.{Dialect}
 use Rattle.lq_drill.specs.Faults.{entries_of}
-use Rattle.lq_kinds.specs.declared.any_change.AnyChange.{AnyChange}
+use Rattle.lq_any.specs.declared.any_change.AnyChange.{AnyChange}
 use Rattle.lq_playing.specs.Answers.{as_busy, as_failed, as_locked}
 use Rattle.lq_playing.specs.declared.came.Came.{Came}
 use Rattle.lq_players.specs.AnyCommand.{works}

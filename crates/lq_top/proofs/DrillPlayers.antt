@@ -16,7 +16,7 @@ use Rattle.lq_base.specs.declared.command.Command.{Command}
 use Rattle.lq_base.specs.declared.dialect.Dialect.{Dialect}
 use Rattle.lq_base.specs.declared.tracking.Lock.{Lock}
 use Rattle.lq_commands.specs.Stamp.{numbered}
-use Rattle.lq_kinds.specs.declared.any_change.AnyChange.{AnyChange}
+use Rattle.lq_any.specs.declared.any_change.AnyChange.{AnyChange}
 use Rattle.lq_model.proofs.Lists.{and_right, any_none}
 use Rattle.lq_players.specs.AnyCommand.{IsUnstarted, Starts, command_stands, HasTask, HaveTasks}
 use Rattle.lq_players.specs.Tasks.{work_of}

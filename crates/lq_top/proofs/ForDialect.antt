@@ -10,7 +10,7 @@ use Rattle.lq_cli.specs.declared.line.Job.{Job}
 use Rattle.lq_cli.specs.declared.line.Job.TheVariants.{ClearSums, Drill, Generate, History, RollbackSql, Run, Snapshot, Soak, UndoUnrecorded, UpdateCount, UpdateSql, UpdateTestingRollback, UpdateTo}
 use Rattle.lq_cli.specs.declared.line.Line.{Line}
 use Rattle.lq_commands.specs.Rehearsal.{part_for}
-use Rattle.lq_kinds.specs.AnyChange.{AreFor, is_read_for}
+use Rattle.lq_kinds.specs.ReadFor.{AreFor, is_read_for}
 use Rattle.lq_kinds.specs.declared.change_set.Changelog.{Changelog}
 use Rattle.lq_portion.proofs.Parts.{all_first}
 use Rattle.lq_portion.specs.Portion.{sets_tag, through}

@@ -17,7 +17,7 @@ use Rattle.lq_commands.specs.Scripts.{log_in, sets_in}
 use Rattle.lq_commands.specs.declared.given.Given.{Given}
 use Rattle.lq_changelog.specs.Gathers.{HasShortTexts}
 use Rattle.lq_generate.specs.Faults.{fault_at}
-use Rattle.lq_kinds.specs.AnyChange.{AreFor, is_read_for}
+use Rattle.lq_kinds.specs.ReadFor.{AreFor, is_read_for}
 use Rattle.lq_kinds.specs.declared.change_set.Changelog.{Changelog}
 use Rattle.lq_model.proofs.Lists.{and_left}
 use Rattle.lq_portion.proofs.Parts.{all_first}

@@ -17,8 +17,8 @@ use Rattle.lq_entries.specs.Load.{folded, if_clean, is_clean, is_clean_database,
 use Rattle.lq_entries.specs.Log.{entries_in, if_undamaged}
 use Rattle.lq_frames.specs.Body.{journal_of, used_by}
 use Rattle.lq_frames.specs.declared.entry.Entry.{Entry as Placed}
-use Rattle.lq_kinds.specs.AnyChange.{AreFor}
-use Rattle.lq_kinds.specs.declared.any_change.AnyChange.{AnyChange}
+use Rattle.lq_kinds.specs.ReadFor.{AreFor}
+use Rattle.lq_any.specs.declared.any_change.AnyChange.{AnyChange}
 use Rattle.lq_model.specs.Catalogue.{Catalogue, no_objects}
 use Rattle.lq_seen.specs.View.{any_meaning}
 use Rattle.lq_stand.proofs.FirstRows.{clear_is_first, release_is_first, sync_is_first, tag_is_first, update_is_first}

@@ -10,7 +10,7 @@ use Rattle.lq_commands.specs.Rehearsal.{rehearsal_script, rehearsed}
 use Rattle.lq_commands.specs.Scripts.{log_in}
 use Rattle.lq_commands.specs.Works.{status_by, is_finished}
 use Rattle.lq_commands.specs.declared.given.Given.{Given}
-use Rattle.lq_kinds.specs.AnyChange.{AreFor}
+use Rattle.lq_kinds.specs.ReadFor.{AreFor}
 use Rattle.lq_model.proofs.Lists.{and_left}
 use Rattle.lq_rehearsal.proofs.Returned.{returned, unrefused}
 use Rattle.lq_rehearsal.specs.Returns.{Returned}

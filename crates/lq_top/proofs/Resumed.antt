@@ -28,8 +28,8 @@ use Rattle.lq_commands.specs.Scripts.{log_in, rollback_script, rollback_to, roll
 use Rattle.lq_commands.specs.Works.{status_by, is_finished}
 use Rattle.lq_commands.specs.declared.given.Given.{Given}
 use Rattle.lq_expr.specs.declared.options.Options.{Options}
-use Rattle.lq_kinds.specs.AnyChange.{AreFor}
-use Rattle.lq_kinds.specs.declared.any_change.AnyChange.{AnyChange}
+use Rattle.lq_kinds.specs.ReadFor.{AreFor}
+use Rattle.lq_any.specs.declared.any_change.AnyChange.{AnyChange}
 use Rattle.lq_kinds.specs.declared.change_set.ChangeSet.{ChangeSet}
 use Rattle.lq_model.proofs.Lists.{and_true}
 use Rattle.lq_model.specs.Catalogue.{is_empty}

@@ -20,7 +20,7 @@ use Rattle.lq_commands.specs.Scripts.{log_in, nothing_told, rolled_to, sets_in, 
 use Rattle.lq_commands.specs.declared.given.Given.{Given}
 use Rattle.lq_generate.specs.Faults.{fault_at}
 use Rattle.lq_kinds.specs.ChangeSets.{is_label}
-use Rattle.lq_kinds.specs.declared.any_change.AnyChange.{AnyChange}
+use Rattle.lq_any.specs.declared.any_change.AnyChange.{AnyChange}
 use Rattle.lq_outside.specs.Forms.{IsPart}
 use Rattle.lq_report.specs.Output.{cleared_text, history_text, sync_text, tagged_text, validated_text}
 use Rattle.lq_seen.specs.Telling.{Account, of_turns}

@@ -13,8 +13,8 @@ use Rattle.lq_changelog.specs.Gathers.{HasShortTexts}
 use Rattle.lq_commands.proofs.Planned.{kept, return_too}
 use Rattle.lq_commands.proofs.ViewsRead.{views_are_read}
 use Rattle.lq_expr.specs.declared.options.Options.{Options}
-use Rattle.lq_kinds.specs.AnyChange.{AreFor}
-use Rattle.lq_kinds.specs.declared.any_change.AnyChange.{AnyChange}
+use Rattle.lq_kinds.specs.ReadFor.{AreFor}
+use Rattle.lq_any.specs.declared.any_change.AnyChange.{AnyChange}
 use Rattle.lq_kinds.specs.declared.change_set.Changelog.{Changelog}
 use Rattle.lq_model.specs.Catalogue.{Catalogue}
 use Rattle.lq_players.proofs.LoadedTexts.{view_has}

@@ -18,7 +18,7 @@ use Rattle.lq_entries.specs.Load.{catalogue_of}
 use Rattle.lq_expr.specs.declared.options.Options.{Options}
 use Rattle.lq_journal.specs.declared.fault.LoadFault.{LoadFault}
 use Rattle.lq_journal.specs.declared.fault.LoadFault.TheVariants as load
-use Rattle.lq_kinds.specs.declared.any_change.AnyChange.{AnyChange}
+use Rattle.lq_any.specs.declared.any_change.AnyChange.{AnyChange}
 use Rattle.lq_kinds.specs.declared.change_set.Changelog.{Changelog}
 use Rattle.lq_mending.specs.Undoes.{can_undo, if_faults, invalid, is_of_calls, refusal, refusal_at, set_marked, sets_in, undo_script, unless_undone, unrecorded}
 use Rattle.lq_mending.specs.declared.outcome.RepairFault.{RepairFault}

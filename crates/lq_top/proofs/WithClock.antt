@@ -8,7 +8,7 @@ use Rattle.lq_commands.specs.Works.{IsReady}
 use Rattle.lq_commands.specs.declared.given.Asked.{Asked}
 use Rattle.lq_commands.specs.declared.given.Given.{Given}
 use Rattle.lq_expr.specs.declared.options.Options.{Options}
-use Rattle.lq_kinds.specs.AnyChange.{AreFor}
+use Rattle.lq_kinds.specs.ReadFor.{AreFor}
 use Rattle.lq_kinds.specs.declared.change_set.Changelog.{Changelog}
 use Rattle.lq_store.specs.Journal.{State}
 use Rattle.lq_turns.specs.declared.stamp.Stamp.{Stamp}

@@ -16,7 +16,7 @@ use Rattle.lq_commands.specs.Scripts.{log_in, rollback_script, sets_in, update_s
 use Rattle.lq_commands.specs.Works.{status_by}
 use Rattle.lq_commands.specs.declared.given.Given.{Given}
 use Rattle.lq_entries.specs.Log.{entries_in}
-use Rattle.lq_kinds.specs.declared.any_change.AnyChange.{AnyChange}
+use Rattle.lq_any.specs.declared.any_change.AnyChange.{AnyChange}
 use Rattle.lq_model.specs.Sound.{IsSound}
 use Rattle.lq_rehearsal.specs.Returns.{MayReturn}
 use Rattle.lq_seen.specs.View.{any_meaning, view_log}

@@ -13,7 +13,7 @@ use Rattle.lq_commands.specs.Rehearsal.{generate_text}
 use Rattle.lq_commands.specs.Scripts.{printed_script}
 use Rattle.lq_commands.specs.Works.{IsKept, is_finished}
 use Rattle.lq_commands.specs.declared.given.Given.{Given}
-use Rattle.lq_kinds.specs.AnyChange.{AreFor}
+use Rattle.lq_kinds.specs.ReadFor.{AreFor}
 use Rattle.lq_kinds.specs.ChangeSets.{is_label}
 use Rattle.lq_kinds.specs.declared.change_set.Changelog.{Changelog}
 use Rattle.lq_tell.specs.declared.done.Done.{Done}

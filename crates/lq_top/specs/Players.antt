@@ -12,7 +12,7 @@ use Rattle.lq_drill.specs.Player.{HasMet}
 use Rattle.lq_drill.specs.declared.fault.DrillFault.{DrillFault}
 use Rattle.lq_drill.specs.declared.fault.DrillFault.TheVariants as fault
 use Rattle.lq_entries.specs.Log.{entries_in}
-use Rattle.lq_kinds.specs.declared.any_change.AnyChange.{AnyChange}
+use Rattle.lq_any.specs.declared.any_change.AnyChange.{AnyChange}
 use Rattle.lq_players.specs.AnyCommand.{BeginInTurn, HaveTasks, NoneReleases, Starts, command_stands, works}
 use Rattle.lq_players.specs.Tasks.{task_for}
 use Rattle.lq_players.specs.declared.any_command.AnyCommand.{AnyCommand}

@@ -3,7 +3,7 @@ ghost use Rattle.std.specs.Prelude.{◌≡◌, ◌≤◌, Err, IfOk, IfSome};
 ghost use Rattle.lq_base.specs.declared.dialect.Dialect.{Dialect as AnyDialect};
 ghost use Rattle.lq_changelog.specs.Gathers.{HasShortTexts};
 ghost use Rattle.lq_commands.specs.Rehearsal.{part_for};
-ghost use Rattle.lq_kinds.specs.AnyChange.{AreFor};
+ghost use Rattle.lq_kinds.specs.ReadFor.{AreFor};
 ghost use Rattle.lq_outside.specs.Forms.{Rose};
 ghost use Rattle.lq_sources.specs.Faults.{Finds};
 ghost use Rattle.lq_sources.specs.declared.fault.LoadFault.TheVariants as load;

@@ -6,7 +6,7 @@ ghost use Rattle.lq_commands.specs.Stamp.{ReadOnce, stamp_of};
 ghost use Rattle.lq_commands.specs.Refusals.{Answers};
 ghost use Rattle.lq_commands.specs.Works.{IsReady, OnIts, TellsRoom};
 ghost use Rattle.lq_commands.specs.declared.given.Given.{Given};
-ghost use Rattle.lq_kinds.specs.AnyChange.{AreFor};
+ghost use Rattle.lq_kinds.specs.ReadFor.{AreFor};
 ghost use Rattle.lq_outside.specs.Forms.{Rose};
 ghost use Rattle.lq_outside.specs.Crash.{LeavesOnly};
 ghost use Rattle.lq_tell.specs.declared.status.Status.TheVariants as status;

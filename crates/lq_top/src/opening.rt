@@ -6,7 +6,7 @@ ghost use Rattle.lq_commands.specs.Stamp.{ReadOnce, stamp_of};
 ghost use Rattle.lq_commands.specs.Works.{IsReady};
 ghost use Rattle.lq_db.specs.Db.{IsDb, IsNew, disk_in, engine_in, state};
 ghost use Rattle.lq_entries.specs.Load.{catalogue_of};
-ghost use Rattle.lq_kinds.specs.AnyChange.{AreFor};
+ghost use Rattle.lq_kinds.specs.ReadFor.{AreFor};
 ghost use Rattle.lq_store.specs.Executor.{kept};
 ghost use Rattle.lq_top.specs.Bytes.{given_at, load_status, most_bytes};
 ghost use Rattle.lq_top.specs.Kinds.{ReadAtMostOnce};

@@ -9,7 +9,7 @@ ghost use Rattle.lq_commands.specs.Stamp.{ReadOnce, stamp_of};
 ghost use Rattle.lq_commands.specs.Scripts.{script, tag_in};
 ghost use Rattle.lq_commands.specs.Works.{IsReady, OnIts};
 ghost use Rattle.lq_db.specs.Db.{IsDb, IsNew, disk_in, engine_in, state};
-ghost use Rattle.lq_kinds.specs.AnyChange.{AreFor};
+ghost use Rattle.lq_kinds.specs.ReadFor.{AreFor};
 ghost use Rattle.lq_model.specs.Catalogue.{table_of};
 ghost use Rattle.lq_outside.specs.Forms.{held_in};
 ghost use Rattle.lq_run.specs.Commands.{HasDatabase, Leaves};

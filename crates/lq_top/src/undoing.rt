@@ -4,7 +4,7 @@ ghost use Rattle.lq_cli.specs.declared.line.Job.TheVariants as job;
 ghost use Rattle.lq_commands.specs.Works.{IsReady};
 ghost use Rattle.lq_db.specs.Db.{IsDb, IsNew, disk_in, engine_in, state, last_text};
 ghost use Rattle.lq_entries.specs.Load.{catalogue_of};
-ghost use Rattle.lq_kinds.specs.AnyChange.{AreFor};
+ghost use Rattle.lq_kinds.specs.ReadFor.{AreFor};
 ghost use Rattle.lq_store.specs.Executor.{kept};
 ghost use Rattle.lq_top.specs.Bytes.{given_at, most_bytes};
 ghost use Rattle.lq_top.specs.Worked.{WorkedOn};

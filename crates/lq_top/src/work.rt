@@ -7,7 +7,7 @@ ghost use Rattle.lq_cli.specs.declared.line.Job.TheVariants as job;
 ghost use Rattle.lq_cli.specs.declared.line.Line.{Line};
 ghost use Rattle.lq_commands.specs.Stamp.{stamp_of};
 ghost use Rattle.lq_commands.specs.Works.{is_finished};
-ghost use Rattle.lq_kinds.specs.AnyChange.{AreFor};
+ghost use Rattle.lq_kinds.specs.ReadFor.{AreFor};
 ghost use Rattle.lq_outside.specs.Forms.{Rose};
 ghost use Rattle.lq_outside.specs.Crash.{Settled};
 ghost use Rattle.lq_sources.specs.declared.fault.LoadFault.{LoadFault as Fault};

@@ -9,7 +9,7 @@ use Rattle.lq_commands.specs.Outputs.{TellsText}
 use Rattle.lq_commands.specs.Refusals.{Answers, IsFault, ends}
 use Rattle.lq_commands.specs.Works.{IfFinished, IsQuiet, IsKept, OnIts, RestsFull, Works, is_finished}
 use Rattle.lq_expr.specs.declared.options.Options.{Options}
-use Rattle.lq_kinds.specs.declared.any_change.AnyChange.{AnyChange}
+use Rattle.lq_any.specs.declared.any_change.AnyChange.{AnyChange}
 use Rattle.lq_kinds.specs.declared.change_set.Changelog.{Changelog}
 use Rattle.lq_mending.specs.Comes.{back_refused}
 use Rattle.lq_mending.specs.Undoes.{Answers as AnswersOf, FullBy, LeavesBy, Made, Standing, TellsBy, TellsOf, can_undo, first_of, if_faults, invalid, is_of_calls, refusal, refusal_at, set_marked, sets_in, undo_script, unless_undone, unrecorded}

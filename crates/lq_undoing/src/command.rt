@@ -2,7 +2,7 @@ ghost use Rattle.std.specs.Prelude.{◌≡◌, ◌≤◌, Err, IfErr, IfOk, None
 ghost use Rattle.lq_commands.specs.Outputs.{TellsText};
 ghost use Rattle.lq_commands.specs.Refusals.{ends};
 ghost use Rattle.lq_commands.specs.Works.{IsQuiet, IsReady};
-ghost use Rattle.lq_kinds.specs.AnyChange.{AreFor};
+ghost use Rattle.lq_kinds.specs.ReadFor.{AreFor};
 ghost use Rattle.lq_outside.specs.Forms.{Rose};
 ghost use Rattle.lq_report.specs.Output.{undone_text};
 ghost use Rattle.lq_tell.specs.Texts.{status_done};

@@ -5,7 +5,7 @@ use Rattle.laws_repair.specs.Repair.{by_of, is_named_so}
 use Rattle.lq_base.specs.declared.tracking.Lock.{Lock}
 use Rattle.lq_base.specs.declared.tracking.Tracked.{Tracked}
 use Rattle.lq_expr.specs.declared.options.Options.{Options}
-use Rattle.lq_kinds.specs.declared.any_change.AnyChange.{AnyChange}
+use Rattle.lq_any.specs.declared.any_change.AnyChange.{AnyChange}
 use Rattle.lq_kinds.specs.declared.change_set.ChangeSet.{ChangeSet}
 use Rattle.lq_report.specs.Mark.{Marked, lock_mark}
 use Rattle.lq_report.specs.declared.mark.Form.{Form}

@@ -4,7 +4,7 @@ ghost use Rattle.laws_repair.specs.Repair.{is_named_so, marked_set};
 ghost use Rattle.lq_base.specs.Name.{is_named, is_text, identity_text};
 ghost use Rattle.lq_base.specs.declared.dialect.Dialect.{Dialect};
 ghost use Rattle.lq_expr.specs.declared.options.Options.{Options};
-ghost use Rattle.lq_kinds.specs.AnyChange.{is_read_for};
+ghost use Rattle.lq_kinds.specs.ReadFor.{is_read_for};
 ghost use Rattle.lq_seen.specs.View.{view, views};
 ghost use Rattle.lq_turns.specs.Deed.{is_of};
 ghost use Rattle.lq_turns.specs.Set.{has_row};

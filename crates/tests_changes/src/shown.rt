@@ -1,6 +1,6 @@
 ghost use Rattle.std.specs.List.{list_all};
 ghost use Rattle.std.specs.Prelude.{◌≡◌, IfOk, List, Some, true};
-ghost use Rattle.lq_kinds.specs.AnyChange.{is_for};
+ghost use Rattle.lq_any.specs.AnyChange.{is_for};
 ghost use Rattle.lq_load.specs.LoadData.{is_for as is_load_for};
 ghost use Rattle.lq_model.specs.Changes.{undoing_of};
 ghost use Rattle.lq_model.specs.Step.{is_statement};

@@ -1,7 +1,7 @@
 ghost use Rattle.std.specs.List.{All};
 ghost use Rattle.std.specs.Prelude.{◌≡◌};
 ghost use Rattle.lq_changelog.specs.Gathers.{HasShortTexts};
-ghost use Rattle.lq_kinds.specs.AnyChange.{AreFor};
+ghost use Rattle.lq_kinds.specs.ReadFor.{AreFor};
 
 use lq_base::{Dialect, Items, NoMemory, Text};
 use lq_changelog::load;

@@ -1,6 +1,6 @@
 use Rattle.std.proofs.Common.{rules, sym, ◌≡◌, None, Some}
 use Rattle.std.specs.List.{slice_get}
-use Rattle.lq_kinds.specs.AnyChange.{is_read_for}
+use Rattle.lq_kinds.specs.ReadFor.{is_read_for}
 use Rattle.lq_seen.proofs.Read.{all_at}
 use Rattle.lq_back.proofs.RowsBack.{by_its, its_set, no_set}
 use Rattle.lq_back.proofs.row_back.turn_at.Goals as goal

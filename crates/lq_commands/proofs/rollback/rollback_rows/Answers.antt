@@ -1,7 +1,7 @@
 use Rattle.std.proofs.Common.{refl, rules, subst, sym}
 use Rattle.std.specs.Prelude.{Err, List, reverse, ◌≡◌}
 use Rattle.lq_back.specs.Reversal.{AreWays}
-use Rattle.lq_back.specs.declared.reversal.TakenBack.{TakenBack}
+use Rattle.lq_kept.specs.declared.way.TakenBack.{TakenBack}
 use Rattle.lq_commands.proofs.Endings.{untouched_crashes, untouched_works}
 use Rattle.lq_commands.proofs.RolledBack.{kept_none, missing_answers, target_no_disk, target_so, target_tells_ok, way_answers, way_no_disk, way_there}
 use Rattle.lq_commands.proofs.Updated.{answers_so}

@@ -1,7 +1,7 @@
 use Rattle.std.proofs.Common.{ap, subst, sym, ◌≡◌, ◌∙◌}
 use Rattle.std.specs.Prelude.{[]}
 use Rattle.lq_expr.specs.declared.options.Options.{Options}
-use Rattle.lq_kinds.specs.AnyChange.{AreFor}
+use Rattle.lq_kinds.specs.ReadFor.{AreFor}
 use Rattle.lq_seen.specs.Telling.{of_sets}
 use Rattle.lq_seen.specs.View.{view_log}
 use Rattle.lq_sets.specs.SetTurns.{IsReadFor, Knows}

@@ -2,7 +2,7 @@ use Rattle.std.proofs.Common.{ap, length, sym, ◌∙◌, ◌≡◌}
 use Rattle.std.specs.Prelude.{codes}
 use Rattle.lq_model.proofs.Lists.{all_one_more}
 use Rattle.lq_tree.specs.Items.{item_path}
-use Rattle.lq_kinds.specs.AnyChange.{is_for}
+use Rattle.lq_any.specs.AnyChange.{is_for}
 use Rattle.lq_kinds.specs.Changes.{change_at}
 use Rattle.lq_kinds.proofs.EachChange.{one_more}
 use Rattle.lq_kinds.proofs.loads.each_change.Goals as goal

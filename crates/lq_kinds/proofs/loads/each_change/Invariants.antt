@@ -1,6 +1,6 @@
 use Rattle.std.proofs.Common.{drop, length, true, ◌++◌, ◌≡◌}
 use Rattle.std.specs.List.{list_all}
-use Rattle.lq_kinds.specs.AnyChange.{is_for}
+use Rattle.lq_any.specs.AnyChange.{is_for}
 use Rattle.lq_kinds.specs.Changes.{changes_from, map_set}
 use Rattle.lq_kinds.proofs.loads.each_change.Given as goal
 

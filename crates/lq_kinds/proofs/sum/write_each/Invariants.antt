@@ -1,6 +1,6 @@
 use Rattle.std.proofs.Common.{◌≡◌, ◌++◌, length, map}
 use Rattle.lq_model.specs.Changes.{canonical_each}
-use Rattle.lq_kinds.specs.AnyChange.{canonical_of}
+use Rattle.lq_any.specs.AnyChange.{canonical_of}
 use Rattle.lq_kinds.proofs.sum.write_each.Given as goal
 
 abbrev pub invariant-loop-rest : goal.invariant-loop-rest

@@ -1,7 +1,7 @@
 use Rattle.std.proofs.Common.{ap, rules, subst, sym, ◌∙◌}
 use Rattle.std.specs.Prelude.{Err, IfOk, List, None, Option, Some, option_map, ◌≡◌}
 use Rattle.laws_repair.specs.Repair.{marked_set}
-use Rattle.lq_kinds.specs.declared.any_change.AnyChange.{AnyChange}
+use Rattle.lq_any.specs.declared.any_change.AnyChange.{AnyChange}
 use Rattle.lq_kinds.specs.declared.change_set.ChangeSet.{ChangeSet}
 use Rattle.lq_report.specs.Mark.{Marked}
 use Rattle.lq_seen.specs.View.{view, views}

@@ -2,8 +2,9 @@ use Rattle.std.proofs.Common.{ap, rules, subst, sym, ◌∙◌}
 use Rattle.std.specs.List.{list_all}
 use Rattle.std.specs.Prelude.{List, Some, false, true, ◌≡◌, ◌≤◌}
 use Rattle.laws_repair.specs.Repair.{is_mark_text, by_of}
-use Rattle.lq_kinds.specs.AnyChange.{is_for, is_block_for}
-use Rattle.lq_kinds.specs.declared.any_change.AnyChange.{AnyChange}
+use Rattle.lq_any.specs.AnyChange.{is_for}
+use Rattle.lq_kinds.specs.ReadFor.{is_block_for}
+use Rattle.lq_any.specs.declared.any_change.AnyChange.{AnyChange}
 use Rattle.lq_model.proofs.Lists.{and_left}
 use Rattle.lq_report.specs.Mark.{Marked}
 use Rattle.lq_seen.specs.View.{any_meaning, view}

@@ -4,7 +4,7 @@ use Rattle.lq_base.specs.declared.command.Command.TheVariants.{Sync}
 use Rattle.lq_beside.specs.Replays.{HasTexts}
 use Rattle.lq_players.proofs.Synced.{same_log}
 use Rattle.lq_players.specs.Tasks.{work_of}
-use Rattle.lq_kinds.specs.declared.any_change.AnyChange.{AnyChange}
+use Rattle.lq_any.specs.declared.any_change.AnyChange.{AnyChange}
 use Rattle.lq_run.specs.Stands.{IsHeld}
 use Rattle.lq_turns.specs.Set.{Changelog}
 use Rattle.lq_players.proofs.any_command.sync.Goals as goal

@@ -5,7 +5,7 @@ use Rattle.lq_players.proofs.RowsRead.{err_so}
 use Rattle.lq_players.proofs.UpdateTurns.{plans_here}
 use Rattle.lq_players.specs.RollingBack.{IsRefusal}
 use Rattle.lq_players.specs.Updating.{IsPlanFor, Plans}
-use Rattle.lq_kinds.specs.AnyChange.{AreFor}
+use Rattle.lq_kinds.specs.ReadFor.{AreFor}
 use Rattle.lq_players.proofs.update_checks.plan_on.Goals as goal
 
 pub check_changelog-requires : goal.check_changelog-requires

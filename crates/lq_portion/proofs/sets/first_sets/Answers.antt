@@ -2,7 +2,7 @@ use Rattle.std.proofs.Common.{ap, subst, sym, ◌∙◌}
 use Rattle.std.proofs.lemmas.List.Elements.{All-take}
 use Rattle.std.specs.List.{All, list_all}
 use Rattle.lq_changelog.specs.Gathers.{HasShortTexts}
-use Rattle.lq_kinds.specs.AnyChange.{is_read_for}
+use Rattle.lq_kinds.specs.ReadFor.{is_read_for}
 use Rattle.lq_kinds.specs.declared.change_set.Changelog.{Changelog}
 use Rattle.lq_portion.proofs.Parts.{all_first}
 use Rattle.lq_portion.proofs.sets.first_sets.Goals as goal

@@ -1,7 +1,7 @@
 use Rattle.std.proofs.Common.{ap, rules, sym, ◌∙◌}
 use Rattle.std.specs.Option.{option_copied}
 use Rattle.std.specs.Prelude.{Err, List, None, Some, ◌≡◌}
-use Rattle.lq_bound.specs.Bound.{first_bound}
+use Rattle.lq_back.specs.Bound.{first_bound}
 use Rattle.lq_kinds.specs.declared.change_set.ChangeSet.{ChangeSet}
 use Rattle.lq_kinds.specs.declared.change_set.Changelog.{Changelog}
 use Rattle.lq_plan.specs.Told.{work}

@@ -1,6 +1,6 @@
 use Rattle.std.proofs.Common.{length, true, ◌≡◌, ◌++◌}
 use Rattle.std.specs.List.{list_all}
-use Rattle.lq_kinds.specs.AnyChange.{is_for}
+use Rattle.lq_any.specs.AnyChange.{is_for}
 use Rattle.lq_seen.proofs.turn.statements_of.Given as goal
 use Rattle.lq_seen.specs.View.{any_meaning}
 use Rattle.lq_turns.specs.Set.{statements_of}

@@ -1,6 +1,6 @@
 use Rattle.std.proofs.Common.{length, reverse, true, ◌≡◌, ◌++◌}
 use Rattle.std.specs.List.{list_all}
-use Rattle.lq_kinds.specs.AnyChange.{is_for}
+use Rattle.lq_any.specs.AnyChange.{is_for}
 use Rattle.lq_sets.proofs.beginnings.beginnings.Given as goal
 use Rattle.lq_sets.specs.Counting.{begins_from}
 

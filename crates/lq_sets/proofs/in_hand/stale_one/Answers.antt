@@ -1,7 +1,7 @@
 use Rattle.std.proofs.Common.{ap, None, Option, rules, Some, sym, ◌≡◌, ◌∙◌}
 use Rattle.std.specs.List.{slice_get}
-use Rattle.lq_kinds.specs.AnyChange.{is_for}
-use Rattle.lq_kinds.specs.declared.any_change.AnyChange.{AnyChange}
+use Rattle.lq_any.specs.AnyChange.{is_for}
+use Rattle.lq_any.specs.declared.any_change.AnyChange.{AnyChange}
 use Rattle.lq_seen.proofs.Read.{all_at}
 use Rattle.lq_sets.proofs.in_hand.stale_one.Goals as goal
 use Rattle.lq_sets.specs.Counting.{stale_one}

@@ -1,5 +1,5 @@
 use Rattle.std.proofs.Common.{◌∙◌}
-use Rattle.lq_kinds.specs.declared.any_change.AnyChange.{AnyChange}
+use Rattle.lq_any.specs.declared.any_change.AnyChange.{AnyChange}
 use Rattle.lq_plan.proofs.Telling.{heads_tell}
 use Rattle.lq_sets.proofs.planning.pending_of.Goals as goal
 use Rattle.lq_seen.specs.View.{views}

@@ -1,6 +1,6 @@
 use Rattle.std.proofs.Common.{None, rules, Some, subst, sym, ◌≡◌, ◌-◌}
 use Rattle.std.specs.List.{slice_get}
-use Rattle.lq_kinds.specs.AnyChange.{is_block_for, is_read_for}
+use Rattle.lq_kinds.specs.ReadFor.{is_block_for, is_read_for}
 use Rattle.lq_model.proofs.Lists.{and_left}
 use Rattle.lq_seen.proofs.Read.{all_at}
 use Rattle.lq_sets.proofs.Stale.{before_is, has_not_looked, none_before}

@@ -1,7 +1,7 @@
 use Rattle.std.proofs.Common.{rules, sym, ◌∙◌}
 use Rattle.std.specs.List.{list_all}
 use Rattle.std.specs.Prelude.{true, ◌∷◌, ◌≡◌}
-use Rattle.lq_kinds.specs.AnyChange.{is_read_for}
+use Rattle.lq_kinds.specs.ReadFor.{is_read_for}
 use Rattle.lq_model.proofs.Lists.{and_right}
 use Rattle.lq_unrecorded.proofs.Naming.{is_first, not_first}
 use Rattle.lq_unrecorded.proofs.named.next_named.Goals as goal

@@ -3,7 +3,7 @@ use Rattle.std.specs.List.{filter, list_all}
 use Rattle.laws_repair.specs.Repair.{is_named_so}
 use Rattle.lq_base.specs.declared.dialect.Dialect.{Dialect}
 use Rattle.lq_expr.specs.declared.options.Options.{Options}
-use Rattle.lq_kinds.specs.AnyChange.{is_read_for}
+use Rattle.lq_kinds.specs.ReadFor.{is_read_for}
 use Rattle.lq_seen.specs.View.{views}
 use Rattle.lq_unrecorded.proofs.named.next_named.Given as goal
 

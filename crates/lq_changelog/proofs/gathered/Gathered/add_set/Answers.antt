@@ -1,5 +1,5 @@
 use Rattle.std.proofs.Common.{[], rules, ◌++◌, ◌∷◌, ◌≡◌}
-use Rattle.lq_kinds.specs.AnyChange.{is_read_for}
+use Rattle.lq_kinds.specs.ReadFor.{is_read_for}
 use Rattle.lq_changelog.proofs.Short.{one_more}
 use Rattle.lq_changelog.proofs.gathered.Gathered.add_set.Goals as goal
 

@@ -1,7 +1,7 @@
 use Rattle.std.proofs.Common.{◌≡◌, subst, sym, true}
 use Rattle.lq_model.proofs.Lists.{and_true}
 use Rattle.lq_kinds.specs.ChangeSets.{set_with}
-use Rattle.lq_kinds.specs.AnyChange.{is_read_for}
+use Rattle.lq_kinds.specs.ReadFor.{is_read_for}
 use Rattle.lq_kinds.specs.declared.change_set.ChangeSet.{ChangeSet}
 use Rattle.lq_kinds.proofs.change_set.ChangeSet.read.Goals as goal
 

@@ -1,7 +1,7 @@
 use Rattle.std.proofs.Common.{rules, subst, sym}
 use Rattle.std.specs.Prelude.{List, Option, Some, reverse, ◌≡◌}
 use Rattle.lq_back.specs.Reversal.{AreWays}
-use Rattle.lq_back.specs.declared.reversal.TakenBack.{TakenBack}
+use Rattle.lq_kept.specs.declared.way.TakenBack.{TakenBack}
 use Rattle.lq_back.specs.declared.row_turns.RowTurns.{RowTurns}
 use Rattle.lq_players.proofs.BackPlanned.{lack_only, missing_is_refusal, missing_passes, ok_at, passes_back, turns_there, way_passes}
 use Rattle.lq_players.proofs.RowsRead.{err_so}

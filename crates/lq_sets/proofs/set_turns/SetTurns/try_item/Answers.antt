@@ -1,7 +1,7 @@
 use Rattle.std.proofs.Common.{List, rules, subst, Some, ◌≡◌}
 use Rattle.std.specs.List.{slice_get}
 use Rattle.lq_base.specs.declared.run.Printed.{Printed}
-use Rattle.lq_kinds.specs.AnyChange.{is_block_for, is_read_for}
+use Rattle.lq_kinds.specs.ReadFor.{is_block_for, is_read_for}
 use Rattle.lq_model.proofs.Lists.{and_left}
 use Rattle.lq_sets.proofs.Coming.{came_to}
 use Rattle.lq_seen.proofs.Read.{all_at}

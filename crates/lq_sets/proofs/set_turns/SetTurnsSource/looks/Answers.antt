@@ -1,5 +1,5 @@
 use Rattle.std.proofs.Common.{subst, sym}
-use Rattle.lq_kinds.specs.AnyChange.{AreFor}
+use Rattle.lq_kinds.specs.ReadFor.{AreFor}
 use Rattle.lq_kinds.specs.declared.change_set.Changelog.{Changelog}
 use Rattle.lq_sets.specs.Counting.{HasLooked, changes_before}
 use Rattle.lq_sets.proofs.Turned.{looks_on, looks_past}
