@@ -1,6 +1,6 @@
 //! How many statements a change gives.
 ghost use Rattle.std.specs.Prelude.{◌≡◌, IfOk, length, true};
-ghost use Rattle.lq_kinds.specs.AnyChange.{gives, is_for};
+ghost use Rattle.lq_any.specs.AnyChange.{gives, is_for};
 
 use crate::any_change::AnyChange;
 use lq_base::{Dialect, Items, NoMemory};
