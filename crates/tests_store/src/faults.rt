@@ -1,9 +1,9 @@
-use crate::opened::{acted, entries};
 use lq_base::Dialect;
 use lq_outside::MemDisk;
 use std::alloc::Global;
 use std::process::Abort;
 use std::test::Fail;
+use tests_play::{acted, entries};
 
 // The first and the last number of a call of the disk that fails, what the script answers then, and
 // the entries that are on the disk afterwards.

@@ -1,11 +1,11 @@
 ghost use Rattle.std.specs.Prelude.{◌≤◌};
 
-use crate::opened::acted;
 use lq_base::Dialect;
 use lq_outside::MemDisk;
 use std::alloc::{AllocError, Global};
 use std::process::Abort;
 use std::test::Fail;
+use tests_play::acted;
 
 // What a script answers, and how many bytes are on the disk afterwards.
 type End = (&'static str, usize);

@@ -1,9 +1,9 @@
-use crate::opened::{acted, entries};
 use lq_base::Dialect;
 use lq_outside::MemDisk;
 use std::alloc::Global;
 use std::process::Abort;
 use std::test::Fail;
+use tests_play::{acted, entries};
 
 // A script, what it answers and the entries that it leaves.
 type Row = (&'static str, &'static str, &'static str);

@@ -1,7 +1,5 @@
 ghost use Rattle.std.specs.Prelude.{◌≡◌, ◌≤◌};
 
-use crate::opened::{acted, entries, show_refusal};
-use crate::play::show_fault;
 use lq_base::Dialect;
 use lq_db::Db;
 use lq_engine::Engine;
@@ -15,6 +13,7 @@ use lq_store::{Executor, States};
 use std::alloc::{AllocError, Global};
 use std::process::Abort;
 use std::test::Fail;
+use tests_play::{acted, entries, show_fault, show_refusal};
 
 fn show_written(alloc: Global, written: Result<u64, StoreFault>) -> Result<String, AllocError> {
     let mut out = String::new(alloc);

@@ -2,7 +2,6 @@ ghost use Rattle.std.specs.Prelude.{◌≡◌};
 ghost use Rattle.lq_db.specs.Db.{IsValid, disk_in, engine_in};
 
 use crate::damage::journal;
-use crate::play::play;
 use lq_base::Dialect;
 use lq_db::Db;
 use lq_engine::Engine;
@@ -16,6 +15,7 @@ use lq_store::{Executor, States, Store};
 use std::alloc::{AllocError, Global};
 use std::process::Abort;
 use std::test::Fail;
+use tests_play::play;
 
 fn show_last<D: Disk, P: SqlText + Drop, E: Executor + Drop>(
     alloc: Global,

@@ -1,5 +1,5 @@
-use Rattle.tests_store.specs.Noted.{IsNoted}
-use Rattle.tests_store.proofs.play.play.Given as goal
+use Rattle.tests_play.specs.Noted.{IsNoted}
+use Rattle.tests_play.proofs.script.play.Given as goal
 
 abbrev pub invariant-loop-line : goal.invariant-loop-line
 invariant-loop-line g l = record {

@@ -1,6 +1,6 @@
 ghost use Rattle.std.specs.Prelude.{◌≡◌, ◌≤◌};
 
-use crate::play::play;
+use crate::script::play;
 use lq_base::{Dialect, Items, Text};
 use lq_db::Db;
 use lq_engine::Engine;

@@ -1,9 +1,9 @@
-use crate::opened::acted;
 use lq_base::Dialect;
 use lq_outside::MemDisk;
 use std::alloc::{AllocError, Global};
 use std::process::Abort;
 use std::test::Fail;
+use tests_play::acted;
 
 const LOG: &str =
     r#"CREATE TABLE "DATABASECHANGELOG" ("ID" VARCHAR(255) NOT NULL, "AUTHOR" VARCHAR(255) NOT NULL, "FILENAME" VARCHAR(255) NOT NULL, "DATEEXECUTED" TIMESTAMP NOT NULL, "ORDEREXECUTED" INTEGER NOT NULL, "EXECTYPE" VARCHAR(10) NOT NULL, "MD5SUM" VARCHAR(35), "DESCRIPTION" VARCHAR(255), "COMMENTS" VARCHAR(255), "TAG" VARCHAR(255), "LIQUIBASE" VARCHAR(20), "CONTEXTS" VARCHAR(255), "LABELS" VARCHAR(255), "DEPLOYMENT_ID" VARCHAR(10))"#;

@@ -1,6 +1,6 @@
 ghost use Rattle.std.specs.Prelude.{◌≡◌, IsTrue, false, true};
 ghost use Rattle.lq_store.specs.Journal.{is_open};
-ghost use Rattle.tests_store.specs.Noted.{IsNoted, is_noted};
+ghost use Rattle.tests_play.specs.Noted.{IsNoted, is_noted};
 
 use lq_base::{Items, Name, Text};
 use lq_model::{By, ByText, Look, Room, StoreFault};

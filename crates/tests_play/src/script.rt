@@ -1,5 +1,5 @@
 ghost use Rattle.std.specs.Prelude.{None};
-ghost use Rattle.tests_store.specs.Noted.{IsNoted};
+ghost use Rattle.tests_play.specs.Noted.{IsNoted};
 
 use crate::calls::{Call, Told, make};
 use lq_model::{By, Room, StoreFault};
