@@ -4,7 +4,6 @@
 mod change_set;
 mod changes;
 mod context;
-mod count;
 mod fault;
 mod heading;
 mod joined;
@@ -17,8 +16,7 @@ mod sum;
 
 pub use change_set::{ChangeSet, Changelog};
 pub use changes::here_at;
-pub use count::statement_count;
 pub use fault::SetFault;
 pub use label::is_label;
-pub use lq_any::AnyChange;
+pub use lq_any::{AnyChange, statement_count};
 pub use sum::{Sums, sums_of};
