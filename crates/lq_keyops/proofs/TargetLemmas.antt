@@ -9,7 +9,8 @@ use Rattle.lq_model.specs.Catalogue.{Catalogue, Table, same_names, key_list, tar
 use Rattle.lq_model.specs.declared.constraint.ForeignKey.{ForeignKey}
 use Rattle.lq_model.specs.declared.constraint.Key.{Key}
 use Rattle.lq_model.specs.declared.constraint.Unique.{Unique}
-use Rattle.lq_model.proofs.Lists.{any-append, any-map, any_same}
+use Rattle.lq_model.proofs.Lists.{any-append, any-map, any_less, any_same}
+use Rattle.lq_model.specs.Tables.{is_targeted, targets_table}
 use Rattle.lq_rows.specs.Stored.{with_shape}
 use Rattle.lq_rows.specs.declared.shape.Shape.{Shape}
 use Rattle.lq_keyops.specs.Targets.{aims_in_vain, any_aims_in_vain, is_target}
@@ -32,3 +33,13 @@ loses_is t shape it c = any_same (λ e. any_aims_in_vain t shape e.0 e.1.foreign
   each : (b : Bool) (o : Table) → list_any (aims_in_vain t shape) (cond b shape.foreign o.foreign) ≡ list_any (λ f. is_named t f.table && not (list_any (same_names f.targets) (target_lists (with_shape shape it)))) (cond b (with_shape shape it) o).foreign
   each true o = same shape.foreign
   each false o = same o.foreign
+
+-- where no other table's foreign key targets the table, only its own may lose their targets
+pub own_lose : (t : Name) (shape : Shape) (c : Catalogue) → is_targeted c t ≡ false → list_any (aims_in_vain t shape) shape.foreign ≡ false → list_any (λ e. any_aims_in_vain t shape e.0 e.1.foreign) c.tables ≡ false
+own_lose t shape c untargeted none = any_less (λ e. any_aims_in_vain t shape e.0 e.1.foreign) (λ e. not (is_named t e.0) && targets_table t e.1) c.tables (λ e. each (is_named t e.0) e.1) untargeted where
+  vain : (f : ForeignKey) → is_named t f.table ≡ false → aims_in_vain t shape f ≡ false
+  vain f other = ap (λ b. b && not (is_target shape f.targets)) other
+
+  each : (b : Bool) (o : Table) → (not b && targets_table t o) ≡ false → list_any (aims_in_vain t shape) (cond b shape.foreign o.foreign) ≡ false
+  each true o at = none
+  each false o at = any_less (aims_in_vain t shape) (λ f. is_named t f.table) o.foreign vain at

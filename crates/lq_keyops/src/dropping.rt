@@ -64,7 +64,24 @@ fn without_unique(alloc: Global, held: &Held, name: &Name) -> Result<Shape, NoMe
 }
 
 /// ALTER TABLE .. DROP INDEX of a unique constraint on a sound catalogue, on someone's behalf.
+#[tactic(auto, using(lq_rows::proofs::Continued::stays))]
 pub fn drop_unique(
+    parts: &mut Parts,
+    alloc: Global,
+    by: By,
+    dialect: Dialect,
+    table: &Name,
+    name: &Name,
+) -> Result<u64, RunFault>
+    requires { IsSound dialect parts.old.now }
+    ensures { Answers (decide (spec.drop_unique by dialect table.now name.now parts.old.now))
+        parts.old parts.new result }
+{
+    parts.see_targets()?;
+    drop_unique_tested(parts, alloc, by, dialect, table, name)
+}
+
+fn drop_unique_tested(
     parts: &mut Parts,
     alloc: Global,
     by: By,
@@ -108,7 +125,23 @@ fn without_key(alloc: Global, held: &Held) -> Result<Shape, NoMemory>
 }
 
 /// ALTER TABLE .. DROP PRIMARY KEY on a sound catalogue, on someone's behalf.
+#[tactic(auto, using(lq_rows::proofs::Continued::stays))]
 pub fn drop_primary_key(
+    parts: &mut Parts,
+    alloc: Global,
+    by: By,
+    dialect: Dialect,
+    table: &Name,
+) -> Result<u64, RunFault>
+    requires { IsSound dialect parts.old.now }
+    ensures { Answers (decide (spec.drop_primary_key by dialect table.now parts.old.now)) parts.old
+        parts.new result }
+{
+    parts.see_targets()?;
+    drop_primary_key_tested(parts, alloc, by, dialect, table)
+}
+
+fn drop_primary_key_tested(
     parts: &mut Parts,
     alloc: Global,
     by: By,
@@ -147,7 +180,24 @@ fn without_constraint(alloc: Global, held: &Held, name: &Name) -> Result<Shape, 
 }
 
 /// ALTER TABLE .. DROP CONSTRAINT on a sound catalogue, on someone's behalf.
+#[tactic(auto, using(lq_rows::proofs::Continued::stays))]
 pub fn drop_constraint(
+    parts: &mut Parts,
+    alloc: Global,
+    by: By,
+    dialect: Dialect,
+    table: &Name,
+    name: &Name,
+) -> Result<u64, RunFault>
+    requires { IsSound dialect parts.old.now }
+    ensures { Answers (decide (spec.drop_constraint by dialect table.now name.now parts.old.now))
+        parts.old parts.new result }
+{
+    parts.see_targets()?;
+    drop_constraint_tested(parts, alloc, by, dialect, table, name)
+}
+
+fn drop_constraint_tested(
     parts: &mut Parts,
     alloc: Global,
     by: By,
