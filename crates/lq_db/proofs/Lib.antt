@@ -5,4 +5,5 @@ pub mod AloneLeft
 pub mod RanItself
 pub mod Loaded
 pub mod Lasts
+pub mod LockKept
 pub mod Snapshots

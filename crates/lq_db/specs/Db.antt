@@ -14,8 +14,12 @@ use Rattle.lq_journal.specs.State.{dialect_of, disk_of, limit_of, used_of}
 use Rattle.lq_journal.specs.declared.journal.Journal.{Journal}
 use Rattle.lq_model.specs.Catalogue.{Catalogue}
 use Rattle.lq_model.specs.Sound.{IsSound}
+use Rattle.lq_model.specs.declared.caller.By.{By}
+use Rattle.lq_model.specs.declared.caller.By.TheVariants.{User}
 use Rattle.lq_model.specs.declared.fault.StoreFault.{StoreFault}
 use Rattle.lq_model.specs.declared.fault.StoreFault.TheVariants.{Disk, OutOfMemory, Refused}
+use Rattle.lq_model.specs.declared.statement.Statement.{Statement}
+use Rattle.lq_model.specs.declared.statement.Statement.TheVariants.{Insert}
 use Rattle.lq_outside.specs.Crash.{Crashes as DiskCrashes}
 use Rattle.lq_session.specs.Session.{begun_in, lock_in, texts_in}
 use Rattle.lq_session.specs.declared.open.Open.{Open}
@@ -79,6 +83,11 @@ pub record TellLast (entries : Option (List Entry)) (begun : Option Open) (t : L
 -- the lock, where the catalogue has one that can be read
 abbrev pub IsLockOf : Dialect → Catalogue → Lock → Type 0
 IsLockOf d c lock = IfSome (lock_of d c) (λ meant. lock ≡ meant)
+
+-- a statement that leaves it as it is: a user's INSERT, since its table is reserved
+abbrev pub leaves_lock : By → Statement → Bool
+leaves_lock User (Insert t ns ls) = true
+leaves_lock by s = false
 
 -- What a database in a journal holds.
 

@@ -1,5 +1,5 @@
 ghost use Rattle.std.specs.Prelude.{◌≡◌, ◌<◌, ◌++◌, ◌∷◌, [], true, IfSome, OnOk, OnErr, length};
-ghost use Rattle.lq_db.specs.Db.{IsAdded, MayTake};
+ghost use Rattle.lq_db.specs.Db.{IsAdded, IsLockOf, MayTake, leaves_lock};
 ghost use Rattle.lq_session.specs.Session.{texts_in};
 ghost use Rattle.lq_model.specs.Step.{commits_itself, is_statement, step};
 
@@ -32,19 +32,35 @@ pub fn push_text(
     }
 }
 
-// Adds the text of a statement that has run, or changes nothing.
+fn leaves_lock(by: By, statement: &Statement) -> bool
+    ensures { result ≡ leaves_lock by statement.now }
+{
+    matches!((by, statement), (By::User, Statement::Insert { .. }))
+}
+
+// Adds the text of a statement that has run, or changes nothing. The lock is read again unless the
+// statement leaves it as it was seen.
+#[tactic(auto, using(crate::proofs::LockKept::seen_is))]
 fn add<E: Executor>(
     alloc: Global,
     dialect: Dialect,
     engine: &E,
     begun: &mut Open,
+    is_same: bool,
     text: &str,
 ) -> Result<(), NoMemory>
     requires some { IfSome begun.old.entry (λ texts. 0 < length texts) }
+    requires same { is_same ≡ true
+        → IfSome begun.old.lock (λ lock. IsLockOf dialect (E.held engine.now).now lock) }
     ensures added { OnOk result
         (IsAdded dialect text.now (E.held engine.now).now begun.old begun.new) }
     ensures same { OnErr result (begun.new ≡ begun.old) }
 {
+    if is_same {
+        if begun.lock.is_some() {
+            return push_text(alloc, &mut begun.entry, text);
+        }
+    }
     let lock = lock_now(alloc, dialect, engine)?;
     push_text(alloc, &mut begun.entry, text)?;
     begun.lock = Some(lock);
@@ -64,11 +80,14 @@ pub fn take<E: Executor>(
     requires statement { is_statement (E.held engine.old).dialect statement.now ≡ true }
     requires dialect { (E.held engine.old).dialect ≡ dialect }
     requires some { IfSome begun.old.entry (λ texts. 0 < length texts) }
+    requires lock { IfSome begun.old.lock
+        (λ lock. IsLockOf dialect (E.held engine.old).now lock) }
     ensures { MayTake dialect text.now (step by dialect statement.now (E.held engine.old).now)
         (E.held engine.old) begun.old result (E.held engine.new) begun.new }
 {
+    let is_same = leaves_lock(by, statement);
     match engine.run(by, statement) {
-        Ok(count) => match add(alloc, dialect, engine, begun, text) {
+        Ok(count) => match add(alloc, dialect, engine, begun, is_same, text) {
             Ok(()) => Ok(count),
             Err(NoMemory) => {
                 engine.undo_last();
