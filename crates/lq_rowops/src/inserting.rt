@@ -11,7 +11,7 @@ ghost use Rattle.lq_rows.specs.Stored.{Answers};
 ghost use Rattle.lq_rowops.specs.InsertTests.{PlansRow, inserted};
 ghost use Rattle.lq_decide.specs.Faults.{is_orphan, lacks_parent_of};
 
-use crate::row::{copied, new_row, next_after, stated};
+use crate::row::{all_names, copied, new_row, next_after};
 use lq_base::{Dialect, Literal, Name, NoMemory, Reason, Value};
 use lq_model::{By, Column, ForeignKey};
 use lq_parts::{Parts, RunFault};
@@ -174,25 +174,30 @@ fn plan(
 ) -> Result<Planned, RunFault>
     ensures { PlansRow dialect held.now.now columns.now values.now result }
 {
-    let stated = stated(alloc, held.columns(), columns)?;
-    let row = match new_row(
-        alloc,
-        held.next(),
-        held.columns(),
-        columns,
-        stated.as_slice(),
-        values,
-    ) {
+    if columns.is_empty() {
+        let all = all_names(alloc, held.columns())?;
+        return plan_stated(alloc, dialect, held, columns, all.as_slice(), values);
+    }
+    plan_stated(alloc, dialect, held, columns, columns, values)
+}
+
+/// The same by the columns that are stated: all in order where none is.
+fn plan_stated(
+    alloc: Global,
+    dialect: Dialect,
+    held: &Held,
+    columns: &[Name],
+    stated: &[Name],
+    values: &[Literal],
+) -> Result<Planned, RunFault>
+    requires { stated.now ≡ spec.stated held.now.now columns.now }
+    ensures { PlansRow dialect held.now.now columns.now values.now result }
+{
+    let row = match new_row(alloc, held.next(), held.columns(), columns, stated, values) {
         Ok(row) => row,
         Err(fault) => return Err(fault),
     };
-    let Some(next) = next_after(
-        dialect,
-        stated.as_slice(),
-        held.columns(),
-        row.as_slice(),
-        held.next(),
-    ) else {
+    let Some(next) = next_after(dialect, stated, held.columns(), row.as_slice(), held.next()) else {
         return Err(RunFault::OutOfMemory);
     };
     Ok(Planned {

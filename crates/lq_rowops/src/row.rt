@@ -72,7 +72,7 @@ pub fn row_of(
 ) -> Result<Row, RunFault>
     ensures { RowAnswers (map (spec.cell next stated.now values.now) columns.now) result }
 {
-    let mut row = Items::new(alloc);
+    let mut row = Items::from_vec(Vec::with_capacity(alloc, columns.len())?);
     let mut is_wide = false;
     for column in columns {
         match cell(alloc, next, stated, values, column) {
@@ -138,19 +138,8 @@ pub fn column_missing(columns: &[Column], names: &[Name]) -> bool
     names.iter().any(|name| !has_column(columns, name))
 }
 
-/// The columns that are stated: all in order where none is.
-pub fn stated(alloc: Global, columns: &[Column], names: &[Name]) -> Result<Items<Name>, NoMemory>
-    ensures { IfOk result
-        (λ all. all ≡ cond (catalogue.is_empty names.now) (map (λ c. c.name) columns.now)
-        names.now) }
-{
-    if names.is_empty() {
-        return all_names(alloc, columns);
-    }
-    copied(alloc, names)
-}
-
-fn all_names(alloc: Global, columns: &[Column]) -> Result<Items<Name>, NoMemory>
+/// The names of the columns in order.
+pub fn all_names(alloc: Global, columns: &[Column]) -> Result<Items<Name>, NoMemory>
     ensures { IfOk result (λ all. all ≡ map (λ c. c.name) columns.now) }
 {
     let mut all = Items::new(alloc);
