@@ -1,9 +1,8 @@
-use crate::asked::told_by;
-use crate::given::{File, held_of};
 use lq_base::Text;
 use lq_outside::MemFiles;
 use std::alloc::Global;
 use std::process::Abort;
+use tests_loaded::{File, held_of, told_by};
 
 /// Files, the first of which is the root, how many calls loading makes, and what they are loaded as
 /// where none of these fails.
@@ -41,7 +40,7 @@ fn told_failing(rt: &impl Abort, alloc: Global, files: &[File<'_>], call: u64) -
     let mut fail = Vec::new(alloc);
     fail.push(call).expect(rt, "memory");
     let mut files = MemFiles::new(alloc, held, fail);
-    told_by(rt, alloc, root, &mut files)
+    told_by(alloc, root, &mut files).expect(rt, "memory")
 }
 
 // Each call in turn fails, and one behind the last is not made.

@@ -1,9 +1,9 @@
 use crate::asked::{told_bytes, told_held};
-use crate::given::hold;
 use crate::made::changelog_of;
 use lq_base::{Items, Text};
 use std::alloc::Global;
 use std::process::Abort;
+use tests_loaded::hold;
 
 /// A file that is filled up, and the line of the log where it is too long.
 #[derive(Clone, Copy)]

@@ -1,9 +1,9 @@
 use crate::asked::{told_bytes, told_held};
-use crate::given::{Held, hold};
 use crate::made::between;
 use lq_base::{Items, Text};
 use std::alloc::{AllocError, Global};
 use std::process::Abort;
+use tests_loaded::{Held, hold};
 
 // The path of the file on a level of includes.
 fn path_of(alloc: Global, level: usize) -> Result<String, AllocError> {

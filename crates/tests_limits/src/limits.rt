@@ -1,9 +1,9 @@
 use crate::asked::{told_bytes, told_held};
-use crate::given::hold;
 use crate::made::{changelog_of, push_times};
 use lq_base::{Items, Text};
 use std::alloc::Global;
 use std::process::Abort;
+use tests_loaded::hold;
 
 /// An item of the root so many times and then another, and what these are loaded as.
 #[derive(Clone, Copy)]

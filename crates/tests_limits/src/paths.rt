@@ -1,9 +1,9 @@
 use crate::asked::told_held;
-use crate::given::{Held, hold};
 use crate::made::between;
 use lq_base::{Items, NoMemory, Text};
 use std::alloc::Global;
 use std::process::Abort;
+use tests_loaded::{Held, hold};
 
 /// The root's path, its one item, and what it is loaded as.
 type Row<'a> = (&'a str, &'a str, &'a str);
