@@ -23,7 +23,7 @@ loop-thing-preserved g c =
     let is : c.loop-thing.rest.now ≡ c.in-Some.front.now ++ c.in-Some.thing.now ∷ [] = search rules in
     let some : Some c.in-Some-2.more ≡ g.B.Inverts.inverse c.args.by.now c.in-Some.thing.now = search rules in (
       one_undone inverse c.args.things.now c.loop-thing.rest.now c.in-Some.front.now c.in-Some.thing.now c.loop-thing.steps c.append.new.self c.in-Some-2.more is some c.in_ok-append.ensures c.loop-thing.invariant.0,
-      is_passed {b = list_all (has inverse) c.args.things.now} (has inverse) c.loop-thing.rest.now c.in-Some.front.now c.in-Some.thing.now is (there inverse c.in-Some.thing.now c.in-Some-2.more some) c.loop-thing.invariant.1,
+      is_passed (has inverse) c.loop-thing.rest.now c.in-Some.front.now c.in-Some.thing.now is {b = list_all (has inverse) c.args.things.now} (there inverse c.in-Some.thing.now c.in-Some-2.more some) c.loop-thing.invariant.1,
       of_front (g.B.Inverts.knows c.args.by.now) c.loop-thing.rest.now c.in-Some.front.now c.in-Some.thing.now is c.loop-thing.invariant.2,
     )
 
