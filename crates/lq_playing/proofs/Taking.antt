@@ -17,7 +17,7 @@ use Rattle.lq_model.specs.declared.caller.Room.TheVariants.{Ordinary}
 use Rattle.lq_hand.specs.declared.progress.Progress.{Progress}
 use Rattle.lq_model.specs.declared.fault.StoreFault.{StoreFault}
 use Rattle.lq_playing.proofs.Answering.{answered, failed_so, goes_on, lets_be}
-use Rattle.lq_playing.proofs.Told.{asks_is, err_is, some_none, the_disk, whole_disk}
+use Rattle.lq_playing.proofs.Told.{err_is, some_none, the_disk, whole_disk}
 use Rattle.lq_playing.proofs.Failing.{stops_last, stops_still}
 use Rattle.lq_playing.proofs.FirstFaults.{stops_begun, stops_once}
 use Rattle.lq_playing.proofs.Firsts.{moves_begun, moves_once, moves_told}
@@ -27,7 +27,10 @@ use Rattle.lq_playing.proofs.SafelyLater.{safe_ended, safe_going}
 use Rattle.lq_playing.proofs.SafelyLater.{met_before as had_met}
 use Rattle.lq_playing.specs.Answers.{Answers, AnswersAs, FailsAs, failure_of, fault_of, is_disk_answer, is_disk_fault, is_failed_end, is_failure, is_told_end, refusal_in, tells_locked, as_busy, as_failed, as_locked, came}
 use Rattle.lq_playing.specs.Checked.{IsInHand, IsLetIn, Work, Begins, CallsOnce, Judged}
-use Rattle.lq_playing.specs.Under.{Hinders, IsFree, Stays, asks_open, asks_open_at, IsPlain, IsUnder}
+use Rattle.lq_playing.specs.Under.{Hinders, IsFree, IsPlain, IsUnder}
+use Rattle.lq_resting.proofs.Asked.{asks_is}
+use Rattle.lq_resting.specs.Asking.{asks_open, asks_open_at}
+use Rattle.lq_resting.specs.Resting.{Stays}
 use Rattle.lq_playing.specs.Playing.{IsFresh, IsGoing, IsReadyAs, Took, opens_as, stands}
 use Rattle.lq_playing.specs.Resting.{RestsAs}
 use Rattle.lq_playing.specs.declared.came.Came.{Came}

@@ -1,7 +1,7 @@
 -- What the looks at a store tell.
 use Rattle.std.proofs.Common.{ap, inl, inr, subst, sym, ◌∙◌}
 use Rattle.std.specs.Option.{option_map}
-use Rattle.std.specs.Prelude.{Bool, Err, IfErr, IfOk, IfSome, List, None, Ok, Option, Result, Some, [], cond, false, is_some, refl, true, ℕ, ◌&&◌, ◌∷◌, ◌≡◌, ◌⊎◌}
+use Rattle.std.specs.Prelude.{Bool, Err, IfErr, IfOk, IfSome, List, None, Ok, Option, Result, Some, cond, false, is_some, refl, true, ℕ, ◌&&◌, ◌≡◌, ◌⊎◌}
 use Rattle.lq_base.specs.declared.dialect.Dialect.{Dialect}
 use Rattle.lq_base.specs.declared.tracking.Lock.{Lock}
 use Rattle.lq_drill.specs.declared.fault.DrillFault.{DrillFault}
@@ -16,12 +16,13 @@ use Rattle.lq_model.specs.declared.fault.StoreFault.{StoreFault}
 use Rattle.lq_model.specs.declared.fault.StoreFault.TheVariants as fault
 use Rattle.lq_playing.specs.Answers.{fault_of, is_disk_fault, is_failed_end, is_failure, tells_locked, as_locked, came}
 use Rattle.lq_playing.specs.Checked.{Checked, Work, AnswersBeside, AnswersFirst, CallsOnce, Judged, TellsBusy, TellsHeld}
-use Rattle.lq_playing.specs.Under.{Hinders, IsFree, Stays, TellsBusy as IsTold, TellsLost, TellsOpen, asks_open, asks_open_at}
+use Rattle.lq_playing.specs.Under.{Hinders, IsFree, TellsBusy as IsTold, TellsLost, TellsOpen}
 use Rattle.lq_playing.specs.declared.came.Came.{Came}
 use Rattle.lq_playing.specs.declared.came.Report.{Report}
 use Rattle.lq_playing.specs.declared.checks.OneCall.{OneCall}
 use Rattle.lq_playing.specs.declared.checks.Verdict.{Verdict}
 use Rattle.lq_playing.specs.declared.checks.Verdict.TheVariants as verdict
+use Rattle.lq_resting.specs.Asking.{asks_open}
 use Rattle.lq_run.proofs.Beside.{own_alone}
 use Rattle.lq_run.proofs.Losing.{told_at}
 use Rattle.lq_run.specs.Beside.{Asks, Beside, is_disk_end}
@@ -42,8 +43,7 @@ use Rattle.lq_turns.specs.Session.{called}
 use Rattle.lq_turns.specs.Set.{Meaning}
 use Rattle.lq_turns.specs.declared.answer.Answer.{Answer}
 use Rattle.lq_turns.specs.declared.answer.Answer.TheVariants.{Busy, Locked}
-use Rattle.lq_turns.specs.declared.call.Call.{Call}
-use Rattle.lq_turns.specs.declared.call.Call.TheVariants.{Abort, Alone, Begin, Commit, Execute}
+use Rattle.lq_turns.specs.declared.call.Call.TheVariants.{Alone}
 use Rattle.lq_turns.specs.declared.deed.Deed.{Deed}
 use Rattle.lq_turns.specs.declared.stamp.Stamp.{Stamp}
 use Rattle.lq_turns.specs.declared.stop.Refusal.{Refusal}
@@ -171,26 +171,12 @@ once_crashes d session call x before now deeds same crash = subst (λ ds. Crashe
 
 -- a later step
 
--- what is asked for is what is open
-pub asks_is : (d : Dialect) (at : Phase) (calls : List Call) (opened : Bool) → Asks d at calls opened → opened ≡ asks_open_at at calls
-asks_is d phase.Inside [] opened asks = asks
-asks_is d phase.Inside (Begin ∷ calls) opened asks = asks.0
-asks_is d phase.Inside (Execute deed ∷ calls) opened asks = asks.0.0
-asks_is d phase.Inside (Commit ∷ calls) opened asks = asks.0
-asks_is d phase.Inside (Abort ∷ calls) opened asks = absurd asks.0
-asks_is d phase.Inside (Alone deeds room ∷ calls) opened asks = absurd asks.0
-asks_is d phase.GivingUp calls opened asks = asks
-asks_is d phase.Over calls opened asks = asks
-
 pub ready_now : {Key : Type 0} (d : Dialect) (hand : Hand) (turns : Turns Key) (opened : Bool) → opened ≡ asks_open hand → Asks d hand.phase (calls_left hand) (asks_open hand) → IsReady d opened (place_of hand turns)
 ready_now d hand turns opened is asks = by hand.phase (subst (λ o. Asks d hand.phase (calls_left hand) o) (sym is) asks) where
   by : (at : Phase) → Asks d at (calls_left hand) opened → IsReady d opened (hand_place at (calls_left hand) hand.goes_on turns)
   by phase.Inside asks = asks
   by phase.GivingUp asks = asks
   by phase.Over asks = asks
-
-pub asks_at : (at to : Phase) (calls : List Call) (b : Bool) → at ≡ to → b ≡ asks_open_at to calls → b ≡ asks_open_at at calls
-asks_at at to calls b is same = same ∙ sym (ap (λ p. asks_open_at p calls) is)
 
 held_map : (o : Option Lock) (P Q : Lock → Type 0) → IfSome o P → ((lock : Lock) → P lock → Q lock) → IfSome o Q
 held_map None P Q p f = p
@@ -261,21 +247,6 @@ met_err (Err why) o met P is it = inr (met, is, sym it)
 pub unlocked_err : (r found : Result Answer DrillFault) (answer : Answer) → found ≡ Ok answer → IfErr r (λ why. tells_locked answer ≡ false) → IfErr r (λ why. (found ≡ Err why) ⊎ ((a : Answer) × (found ≡ Ok a) × (tells_locked a ≡ false)))
 unlocked_err (Ok a) found answer is it = tt
 unlocked_err (Err why) found answer is it = inr (answer, is, it)
-
--- a lock that has a mark stays held
-
-module _ (d : Dialect) (stamp : Stamp) (why : StoreFault) (within : Bool) (x : State) where
-  pub stays_within : within ≡ true → Stays d stamp (Some why) within x None
-  stays_within is = inr (inl is)
-
-  pub stays_bare : IfSome (lock_of x.dialect x.committed) (λ lock. Holds stamp lock holding.Bare) → Stays d stamp (Some why) within x None
-  stays_bare bare = inr (inr (λ same database stands held. told_at (λ lock. Holds stamp lock holding.Bare) x.dialect d x.committed database bare same stands))
-
-  pub stays_lost : IfSome (lock_of x.dialect x.committed) (λ lock. Holds stamp lock holding.Lost) → Stays d stamp (Some why) within x None
-  stays_lost lost = inr (inr (λ same database stands held. absurd (told_at (λ lock. Holds stamp lock holding.Lost) x.dialect d x.committed database lost same stands held)))
-
-  pub stays_marked : within ≡ false → IfSome (lock_of x.dialect x.committed) (λ lock. Holds stamp lock holding.Marked) → Stays d stamp (Some why) within x (Some why)
-  stays_marked shut marked = (refl, shut, λ same database stands. told_at (λ lock. Holds stamp lock holding.Marked) x.dialect d x.committed database marked same stands)
 
 -- an end
 

@@ -13,7 +13,8 @@ use Rattle.lq_hand.specs.declared.hand.Hand.{Hand}
 use Rattle.lq_model.specs.declared.fault.StoreFault.{StoreFault}
 use Rattle.lq_playing.specs.Answers.{as_busy, as_failed, as_locked, came, fault_of}
 use Rattle.lq_playing.specs.Checked.{Work}
-use Rattle.lq_playing.specs.Under.{IsPlain, IsUnder, asks_open}
+use Rattle.lq_playing.specs.Under.{IsPlain, IsUnder}
+use Rattle.lq_resting.specs.Asking.{asks_open}
 use Rattle.lq_playing.specs.declared.came.Came.{Came}
 use Rattle.lq_playing.specs.declared.came.Report.{Report}
 use Rattle.lq_playing.specs.declared.playing.Playing.{Playing}

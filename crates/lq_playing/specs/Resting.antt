@@ -4,7 +4,7 @@ use Rattle.lq_base.specs.declared.dialect.Dialect.{Dialect}
 use Rattle.lq_drill.specs.declared.fault.DrillFault.{DrillFault}
 use Rattle.lq_model.specs.declared.fault.StoreFault.{StoreFault}
 use Rattle.lq_playing.specs.Answers.{Answers, fault_of}
-use Rattle.lq_playing.specs.Under.{Stays}
+use Rattle.lq_resting.specs.Resting.{Stays}
 use Rattle.lq_store.specs.Journal.{State}
 use Rattle.lq_turns.specs.declared.answer.Answer.{Answer}
 use Rattle.lq_turns.specs.declared.stamp.Stamp.{Stamp}

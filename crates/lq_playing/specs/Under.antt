@@ -6,17 +6,14 @@ use Rattle.lq_beside.specs.Replays.{calls_fit}
 use Rattle.lq_drill.specs.Faults.{is_barred, last_calls}
 use Rattle.lq_drill.specs.declared.fault.DrillFault.{DrillFault}
 use Rattle.lq_drill.specs.declared.fault.DrillFault.TheVariants as drill
-use Rattle.lq_hand.specs.Hand.{IsReady, calls_left}
+use Rattle.lq_hand.specs.Hand.{IsReady}
 use Rattle.lq_hand.specs.Way.{Way}
-use Rattle.lq_hand.specs.declared.hand.Hand.{Hand}
-use Rattle.lq_hand.specs.declared.hand.Phase.{Phase}
-use Rattle.lq_hand.specs.declared.hand.Phase.TheVariants as phase
 use Rattle.lq_model.specs.declared.fault.StoreFault.{StoreFault}
 use Rattle.lq_model.specs.declared.fault.StoreFault.TheVariants as fault
 use Rattle.lq_playing.specs.Answers.{as_busy, as_failed, as_locked, fault_of, is_failure}
 use Rattle.lq_playing.specs.declared.came.Came.{Came}
 use Rattle.lq_run.specs.Ends.{KeepsLock}
-use Rattle.lq_run.specs.Stands.{IsBare, IsHeld, IsMarked}
+use Rattle.lq_run.specs.Stands.{IsBare, IsHeld}
 use Rattle.lq_run.specs.Steps.{Known, Standing, place}
 use Rattle.lq_store.specs.Journal.{State, other}
 use Rattle.lq_track.specs.Database.{Database}
@@ -28,31 +25,9 @@ use Rattle.lq_turns.specs.Set.{Meaning}
 use Rattle.lq_turns.specs.declared.answer.Answer.{Answer}
 use Rattle.lq_turns.specs.declared.answer.Answer.TheVariants.{Busy, Locked}
 use Rattle.lq_turns.specs.declared.call.Call.{Call}
-use Rattle.lq_turns.specs.declared.call.Call.TheVariants.{Abort, Alone, Begin, Commit, Execute}
+use Rattle.lq_turns.specs.declared.call.Call.TheVariants.{Abort}
 use Rattle.lq_turns.specs.declared.stamp.Stamp.{Stamp}
 use Rattle.lq_turns.specs.declared.stop.Refusal.{Refusal}
-
--- whether the next call of a turn comes in a transaction
-
-abbrev pub is_within : Call → Bool
-is_within Begin = false
-is_within (Execute deed) = true
-is_within Commit = true
-is_within Abort = false
-is_within (Alone deeds room) = false
-
-abbrev pub first_within : List Call → Bool
-first_within [] = false
-first_within (call ∷ calls) = is_within call
-
-abbrev pub asks_open_at : Phase → List Call → Bool
-asks_open_at phase.Inside calls = first_within calls
-asks_open_at phase.GivingUp calls = true
-asks_open_at phase.Over calls = false
-
--- whether the turn in hand asks for an open transaction
-abbrev pub asks_open : Hand → Bool
-asks_open hand = asks_open_at hand.phase (calls_left hand)
 
 -- the lock was lost, and is this; or it is held, and another session has a transaction open
 abbrev pub IsHindered : Dialect → Stamp → ℕ → State → Answer → Type 0
@@ -62,11 +37,6 @@ IsHindered d stamp session x a = x.dialect ≡ d → (database : Database) → S
 pub record IsFree (d : Dialect) (stamp : Stamp) (session : ℕ) (within : Bool) (x : State) : Type 0 where
   pub alone : other session x ≡ None
   pub held : within ≡ false → x.dialect ≡ d → (database : Database) → StandsFor d x.committed database → IsHeld stamp database.lock
-
--- after a fault no other call comes where no transaction is open and the lock has a mark
-abbrev pub Stays : Dialect → Stamp → Option StoreFault → Bool → State → Option StoreFault → Type 0
-Stays d stamp met within x None = (met ≡ None) ⊎ ((within ≡ true) ⊎ (x.dialect ≡ d → (database : Database) → StandsFor d x.committed database → IsHeld stamp database.lock → IsBare stamp database.lock))
-Stays d stamp met within x (Some why) = (met ≡ Some why) × (within ≡ false) × (x.dialect ≡ d → (database : Database) → StandsFor d x.committed database → IsMarked stamp database.lock)
 
 -- the lock, where there is memory for it
 abbrev pub TellsLost : Lock → Result Answer DrillFault → Type 0

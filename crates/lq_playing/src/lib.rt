@@ -10,5 +10,5 @@ mod playing;
 pub use calls::{answer_at, call_once, fault_of, judge};
 pub use came::{Came, Report};
 pub use checks::{Checks, OneCall, Verdict};
-pub use hindering::{after_fault, hindrance, last_fault};
+pub use hindering::{after_fault, hindrance};
 pub use playing::Playing;

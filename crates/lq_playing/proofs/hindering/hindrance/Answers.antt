@@ -1,6 +1,6 @@
 use Rattle.std.proofs.Common.{sym, ◌∙◌}
 use Rattle.lq_playing.proofs.Told.{bare_hinders, free_within, lost_hinders, marked_hinders}
-use Rattle.lq_playing.specs.Under.{asks_open}
+use Rattle.lq_resting.specs.Asking.{asks_open}
 use Rattle.lq_playing.proofs.hindering.hindrance.Goals as goal
 
 pub returns-then-asks_open : goal.returns-then-asks_open

@@ -2,7 +2,7 @@ use Rattle.std.proofs.Common.{subst, sym}
 use Rattle.std.specs.Prelude.{◌≤◌}
 use Rattle.lq_playing.proofs.Taking.{answers_disk, rests_disk, took_ended, took_going}
 use Rattle.lq_playing.proofs.Told.{ready_now}
-use Rattle.lq_playing.specs.Under.{asks_open}
+use Rattle.lq_resting.specs.Asking.{asks_open}
 use Rattle.lq_run.specs.Steps.{standing, turns_of}
 use Rattle.lq_store.specs.Journal.{is_open}
 use Rattle.lq_turns.specs.declared.stamp.Stamp.{Stamp}

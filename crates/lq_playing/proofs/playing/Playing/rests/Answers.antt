@@ -1,5 +1,5 @@
 use Rattle.std.proofs.Common.{refl, subst, sym}
-use Rattle.lq_playing.specs.Under.{asks_open}
+use Rattle.lq_resting.specs.Asking.{asks_open}
 use Rattle.lq_playing.specs.Resting.{RestsAs}
 use Rattle.lq_playing.proofs.playing.Playing.rests.Goals as goal
 

@@ -1,5 +1,5 @@
-use Rattle.lq_playing.proofs.Told.{stays_bare, stays_lost, stays_marked, stays_within}
-use Rattle.lq_playing.proofs.hindering.fault_kept.Goals as goal
+use Rattle.lq_resting.proofs.Stayed.{stays_bare, stays_lost, stays_marked, stays_within}
+use Rattle.lq_resting.proofs.resting.fault_kept.Goals as goal
 
 pub returns-then-within : goal.returns-then-within
 returns-then-within g c = λ d. stays_within d c.args.stamp.now c.args.fault c.args.within (g.S.Store.state c.args.store.now) c.if-within.true

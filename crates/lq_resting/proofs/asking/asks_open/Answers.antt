@@ -1,8 +1,8 @@
 use Rattle.std.proofs.Common.{refl}
 use Rattle.lq_hand.specs.Hand.{calls_left}
 use Rattle.lq_hand.specs.declared.hand.Phase.TheVariants.{GivingUp, Inside, Over}
-use Rattle.lq_playing.proofs.Told.{asks_at}
-use Rattle.lq_playing.proofs.hindering.asks_open.Goals as goal
+use Rattle.lq_resting.proofs.Asked.{asks_at}
+use Rattle.lq_resting.proofs.asking.asks_open.Goals as goal
 
 pub returns-in-Inside : goal.returns-in-Inside
 returns-in-Inside c = asks_at c.args.hand.now.phase Inside (calls_left c.args.hand.now) c.first_within.result c.in-Inside.is c.first_within.ensures

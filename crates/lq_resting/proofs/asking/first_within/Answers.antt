@@ -1,8 +1,8 @@
 use Rattle.std.proofs.Common.{ap, rules, sym, ◌∙◌}
 use Rattle.std.specs.Prelude.{[], ◌++◌, ◌∷◌, ◌≡◌}
 use Rattle.lq_hand.proofs.InHand.{last_first}
-use Rattle.lq_playing.specs.Under.{first_within}
-use Rattle.lq_playing.proofs.hindering.first_within.Goals as goal
+use Rattle.lq_resting.specs.Asking.{first_within}
+use Rattle.lq_resting.proofs.asking.first_within.Goals as goal
 
 pub returns-in-Some : goal.returns-in-Some
 returns-in-Some c =

@@ -1,7 +1,8 @@
 use Rattle.std.proofs.Common.{inl, subst, sym}
 use Rattle.std.specs.Prelude.{Some}
-use Rattle.lq_playing.specs.Under.{Stays, asks_open}
-use Rattle.lq_playing.proofs.hindering.last_fault.Goals as goal
+use Rattle.lq_resting.specs.Asking.{asks_open}
+use Rattle.lq_resting.specs.Resting.{Stays}
+use Rattle.lq_resting.proofs.resting.last_fault.Goals as goal
 
 pub returns-in-None : goal.returns-in-None
 returns-in-None g c = λ d. inl c.in-None.is
