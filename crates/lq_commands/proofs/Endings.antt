@@ -81,7 +81,7 @@ module _ (d : Dialect) (calls : List Call) (database : Database) (x y : State) w
   full_as (end.Locked lock) left = tt
   full_as end.Disk left = tt
   full_as (end.Full used next) left = left
-  full_as end.OutOfMemory left = tt
+  full_as end.OutOfMemory left = left
 
   full_by : (e : End) (s : Status) → TellsFull e s → FullAs d calls database x e y → RestsFull d calls database x s y
   full_by end.Done s tells full = finished_full s tells

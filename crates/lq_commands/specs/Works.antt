@@ -14,7 +14,7 @@ use Rattle.lq_commands.specs.declared.given.Given.{Given}
 use Rattle.lq_report.specs.Output.{rollback_text, sql_text, sync_text, update_text}
 use Rattle.lq_run.specs.Commands.{HasDatabase, Leaves}
 use Rattle.lq_run.specs.Crashes.{CrashesLeave, LeftBehind, LeftInCommand}
-use Rattle.lq_run.specs.Left.{IsFullIn, RestsIn}
+use Rattle.lq_run.specs.Left.{IsFullIn, RestsIn, RestsShortIn}
 use Rattle.lq_run.specs.Stands.{HadRoom}
 use Rattle.lq_run.specs.Steps.{TellsAs}
 use Rattle.lq_run.specs.declared.runner.End.{End}
@@ -81,14 +81,14 @@ abbrev pub KeptLock : End → Type 0
 KeptLock (end.Locked lock) = ⊥
 KeptLock e = Unit {0}
 
--- a run that met a full journal tells how full it was, and leaves it and the lock so
+-- a run that met a full journal tells how full it was, and leaves it and the lock so; want of memory leaves them so as well
 abbrev pub FullAs : Dialect → List Call → Database → State → End → State → Type 0
 FullAs d calls database x end.Done y = Unit {0}
 FullAs d calls database x (end.Refused refusal) y = Unit {0}
 FullAs d calls database x (end.Locked lock) y = Unit {0}
 FullAs d calls database x end.Disk y = Unit {0}
 FullAs d calls database x (end.Full used next) y = RestsIn d calls database x y used next
-FullAs d calls database x end.OutOfMemory y = Unit {0}
+FullAs d calls database x end.OutOfMemory y = RestsShortIn d calls database x y
 
 -- and its status has the same numbers
 abbrev pub TellsFull : End → Status → Type 0

@@ -81,7 +81,7 @@ module _ (read : StatementsReadBack) (d : Dialect) (calls : List Call) (database
   once_behind has (Ok u) leaves = leaves_left has leaves
   once_behind has (Err fault.Disk) failed = front_behind last.entries failed front_left
   once_behind has (Err (fault.Full used more)) is = subst (LeftBehind d calls database x) (sym is.0) (none_left d calls database x has)
-  once_behind has (Err fault.OutOfMemory) same = subst (LeftBehind d calls database x) (sym same) (none_left d calls database x has)
+  once_behind has (Err fault.OutOfMemory) is = subst (LeftBehind d calls database x) (sym is.0) (none_left d calls database x has)
   once_behind has (Err (fault.Busy n)) leaves = absurd leaves
   once_behind has (Err fault.NotSql) leaves = absurd leaves
   once_behind has (Err (fault.Refused reason)) leaves = absurd leaves
@@ -143,7 +143,7 @@ module _ {Key : Type 0} (read : StatementsReadBack) (d : Dialect) (m : Meaning K
   behind_as (end.Locked lock) ends = absurd ends
   behind_as end.Disk ends = breaks_behind ends
   behind_as (end.Full used more) ends = stops_behind ends.0
-  behind_as end.OutOfMemory ends = stops_behind ends
+  behind_as end.OutOfMemory ends = stops_behind ends.0
 
 pub behind_all : {Key Told : Type 0} (read : StatementsReadBack) (d : Dialect) (m : Meaning Key) (stamp : Stamp) (number : ℕ) (r : Standing Key Told) → IsNew d m stamp r → (x y : State) (e : End) → RunsWhole d m stamp number r x e y → BehindAll d m stamp r x y
 behind_all read d m stamp number r new x y e whole unmarked database told has known fit =

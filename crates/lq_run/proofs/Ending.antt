@@ -25,12 +25,11 @@ use Rattle.lq_run.proofs.Full.{full_before}
 use Rattle.lq_run.proofs.Grows.{calls_grow, came_on}
 use Rattle.lq_run.proofs.Keeping.{call_holds}
 use Rattle.lq_run.specs.Does.{Breaks, Faults}
-use Rattle.lq_run.specs.Ends.{AllHoldOn, AreLast, BreaksBefore, CameFrom, EndsAs, GoesOnBy, HoldsOn, IsBefore, IsFullSince, IsLastCall, IsOnWay, IsRunning, IsToCome, KeepsFull, KeepsLock, Reaches, RestsAs, RestsBefore, StandsBefore, StaysFull, at_end, disk_failed}
-use Rattle.lq_run.specs.Stands.{IsBare, IsHeld, IsMarked, IsBegun, Stands}
+use Rattle.lq_run.specs.Ends.{AllHoldOn, AreLast, BreaksBefore, CameFrom, EndsAs, GoesOnBy, HoldsOn, IsBefore, IsFullSince, IsLastCall, IsOnWay, IsRunning, IsToCome, KeepsFull, KeepsLock, LetsGo, Reaches, RestsAs, RestsBefore, RestsShort, RestsShortAs, StandsBefore, StaysFull, at_end, disk_failed}
+use Rattle.lq_run.specs.Stands.{IsBare, IsHeld, IsBegun, Stands}
 use Rattle.lq_run.specs.Moves.{Goes, IsAt, Meets}
 use Rattle.lq_run.specs.Steps.{Advances, Closes, Ends, EndsStep, Falls, Standing, Steps, StepsAs, TakesBack, TellsAs, end_of, is_disk, is_over, last_end, place, turns_of}
 use Rattle.lq_run.specs.declared.runner.End.{End}
-use Rattle.lq_run.specs.declared.runner.End.TheVariants as end
 use Rattle.lq_run.specs.declared.runner.Step.TheVariants as step
 
 self_eq : (n : ℕ) → (n == n) ≡ true
@@ -155,36 +154,49 @@ module _ {Key : Type 0} (d : Dialect) (m : Meaning Key) (stamp : Stamp) (number 
     rests_there : (used more : ℕ) → s.is_open ≡ false → RestsAs d m stamp number start first last true met used more s y → RestsBefore d m stamp number start first last true met used more y
     rests_there used more shut rests = record { s = s; came = came; before = way; shut = (shut, begun_none shut); rests = rests }
 
+    short_there : s.is_open ≡ false → RestsShortAs d m stamp number start first last true s y → RestsShort d m stamp number start first last true y
+    short_there shut rests = record { s = s; came = came; before = way; shut = (shut, begun_none shut); rests = rests }
+
+    -- there was no memory for the call that frees the lock
+    short_held : IsHeld stamp s.committed.lock → y ≡ x → RestsShortAs d m stamp number start first last true s y
+    short_held held is = by held where
+      still : Stands start number y s
+      still = subst (λ z. Stands start number z s) (sym is) stands
+
+      by : IsHeld stamp s.committed.lock → RestsShortAs d m stamp number start first last true s y
+      by (inl bare) = inr (still, inl bare)
+      by (inr marked) = inl (inr (marked, still))
+
     -- the disk failed at a call on the way, or at the one that frees a lock without a mark
     breaks : (p : Place Key) (room : Room) (is : Meets d m stamp number p start s x room fault.Disk y) → IsToCome d m stamp number start first last is.call s → BreaksBefore d m stamp number start first last y
     breaks p room is next = record { s = s; x = x; stands = stands; came = came; call = is.call; breaks = subst (λ e. Breaks e is.call s x y) same_dialect is.faults; before = next }
 
     -- the call that frees the lock met a fault
-    meets : (p : Place Key) (why : StoreFault) (is : Meets d m stamp number p start s x Release why y) → is.call ≡ closing → s.is_open ≡ false → IsToCome d m stamp number start first last is.call s → GoesOnBy d m stamp number start first last is.call s
+    meets : (p : Place Key) (why : StoreFault) (is : Meets d m stamp number p start s x Release why y) → IsHeld stamp s.committed.lock → is.call ≡ closing → s.is_open ≡ false → IsToCome d m stamp number start first last is.call s → GoesOnBy d m stamp number start first last is.call s
         → EndsAs d m stamp number start first last true met (end_of why) y
-    meets p fault.Disk is closes shut next goes_on = breaks p Release is next
-    meets p (fault.Full used more) is closes shut next goes_on =
+    meets p fault.Disk is held closes shut next goes_on = breaks p Release is next
+    meets p (fault.Full used more) is held closes shut next goes_on =
         let full = full_before d m stamp number start first last s x stands same_dialect came is.call Release used more is.by (inr (closes, begun_none shut)) next goes_on is.faults.0 in (
           stands_still is.faults.1,
           rests_there used more shut (inr (subst (λ z. Stands start number z s) (sym is.faults.1) stands, ((full.0, ap (λ (t : Session). t.entries) (sym full.1)), inl (full.2 ∙ closes)))),
         )
-    meets p fault.OutOfMemory is closes shut next goes_on = stands_still is.faults
-    meets p (fault.Busy n) is closes shut next goes_on = absurd is.faults
-    meets p fault.NotSql is closes shut next goes_on = absurd is.faults
-    meets p (fault.Refused reason) is closes shut next goes_on = absurd is.faults
+    meets p fault.OutOfMemory is held closes shut next goes_on = (stands_still is.faults, short_there shut (short_held held is.faults))
+    meets p (fault.Busy n) is held closes shut next goes_on = absurd is.faults
+    meets p fault.NotSql is held closes shut next goes_on = absurd is.faults
+    meets p (fault.Refused reason) is held closes shut next goes_on = absurd is.faults
 
     -- after a fault the lock is freed, or has a mark
     lets_go : (calls : List Call) (why : StoreFault) → is_disk why ≡ false → KeepsFull d m stamp number start first last met s calls (Some why) → s.is_open ≡ false → StandsBefore d m stamp number start first last y
-        → ((IsBare stamp s.committed.lock × Stands start number y (called d closing s)) ⊎ (IsMarked stamp s.committed.lock × Stands start number y s)) → EndsAs d m stamp number start first last true met (end_of why) y
+        → LetsGo d m stamp number start first last s y → EndsAs d m stamp number start first last true met (end_of why) y
     lets_go calls fault.Disk other kept shut is lock = absurd (not_true (sym other))
     lets_go calls (fault.Full used more) other kept shut is lock = (is, rests_there used more shut (inl (since (kept used more refl), lock))) where
       since : (StaysFull d m stamp number start first last used more s × AreLast calls) ⊎ (met ≡ Some (fault.Full used more)) → IsFullSince d m stamp number start first last met used more s
       since (inl full) = inl full.0
       since (inr before) = inr before
-    lets_go calls fault.OutOfMemory other kept shut is lock = is
-    lets_go calls (fault.Busy n) other kept shut is lock = is
-    lets_go calls fault.NotSql other kept shut is lock = is
-    lets_go calls (fault.Refused reason) other kept shut is lock = is
+    lets_go calls fault.OutOfMemory other kept shut is lock = (is, short_there shut (inl lock))
+    lets_go calls (fault.Busy n) other kept shut is lock = (is, short_there shut (inl lock))
+    lets_go calls fault.NotSql other kept shut is lock = (is, short_there shut (inl lock))
+    lets_go calls (fault.Refused reason) other kept shut is lock = (is, short_there shut (inl lock))
 
     closes_bare : (p : Place Key) (calls : List Call) (why : StoreFault) (e : End) → is_disk why ≡ false → KeepsFull d m stamp number start first last met s calls (Some why) → IsBare stamp s.committed.lock
         → ((call : Call) (more : List Call) → rest d m stamp p (both_of s) ≡ call ∷ more → room_of call ≡ Release → (call ≡ closing))
@@ -201,7 +213,7 @@ module _ {Key : Type 0} (d : Dialect) (m : Meaning Key) (stamp : Stamp) (number 
         let it = failed.1 in
         let frees_it = at_room it.call it.more it.next it.by in
         let closed = shut it.call it.more it.next frees_it in
-        subst (λ a. EndsAs d m stamp number start first last true met a y) (sym failed.2) (meets p failed.0 it frees_it closed (inr (frees_it, bare, begun_none closed, way)) (inr (inr frees_it)))
+        subst (λ a. EndsAs d m stamp number start first last true met a y) (sym failed.2) (meets p failed.0 it (inl bare) frees_it closed (inr (frees_it, bare, begun_none closed, way)) (inr (inr frees_it)))
 
     ends_bare : (p : Place Key) (calls : List Call) (why : StoreFault) (refused : Option Refusal) (e : End) → is_disk why ≡ false → KeepsFull d m stamp number start first last met s calls (Some why) → s.is_open ≡ false
         → ((call : Call) (more : List Call) → rest d m stamp p (both_of s) ≡ call ∷ more → room_of call ≡ Release → (call ≡ closing))
@@ -291,7 +303,7 @@ module _ {Key Told : Type 0} (d : Dialect) (m : Meaning Key) (stamp : Stamp) (nu
         refl,
       )
 
-  takes_back : (before after : Standing Key Told) (told : Told) (start : State) (first last s : Session) (x y : State) → TakesBack d m stamp number after start s y → CameFrom d first s → IsRunning d m stamp number before x start s told → IsBefore s last → (there : Reaches d m stamp number after y start first last told) × (there.session ≡ called d Abort s)
+  pub takes_back : (before after : Standing Key Told) (told : Told) (start : State) (first last s : Session) (x y : State) → TakesBack d m stamp number after start s y → CameFrom d first s → IsRunning d m stamp number before x start s told → IsBefore s last → (there : Reaches d m stamp number after y start first last told) × (there.session ≡ called d Abort s)
   takes_back before after told start first last s x y back came is way =
       let left : rest d m stamp (place after) (both_of (called d Abort s)) ≡ closing ∷ [] = ap (λ p. rest d m stamp p (both_of (called d Abort s))) back.ends_turns in (
         record {
@@ -373,7 +385,7 @@ module _ {Key Told : Type 0} (d : Dialect) (m : Meaning Key) (stamp : Stamp) (nu
           let it = failed.1 in
           let frees = frees_it it.call it.more it.next it.by in
           subst (λ a. EndsAs d m stamp number start first last true met a y) (sym failed.2)
-          (meets d m stamp number start first last met s x y here.there.at.stands here.there.at.dialect is.came way (place before) failed.0 it frees (shut_there it.call it.more it.next frees)
+          (meets d m stamp number start first last met s x y here.there.at.stands here.there.at.dialect is.came way (place before) failed.0 it here.committed frees (shut_there it.call it.more it.next frees)
           (inl (subst (IsBefore (called d it.call s)) (sym (ap (λ cs. all_called d cs s) it.next) ∙ at_last none) (calls_grow d it.more (called d it.call s)))) (goes_on_by it.call it.more it.next))
 
       ends_by : (f : Option StoreFault) (e : End) → before.fault ≡ f → s.is_open ≡ false → Ends d m stamp number (place before) f before.refused start s x e y → EndsAs d m stamp number start first last true met e y
@@ -416,7 +428,3 @@ module _ {Key Told : Type 0} (d : Dialect) (m : Meaning Key) (stamp : Stamp) (nu
         by (inr (inr back)) =
             let it = takes_back before after told start first last s x y back is.came here way in
             (it.0, λ used next same. absurd (no_memory (same_some (sym back.fault ∙ same))))
-
-  -- a runner that has made too many calls stands where it is
-  pub stops : (r : Standing Key Told) (told : Told) (start : State) (first last : Session) (x : State) (met : Option StoreFault) → Reaches d m stamp number r x start first last told → EndsAs d m stamp number start first last true met end.OutOfMemory x
-  stops r told start first last x met is = (is.session, is.came, before_last r is.session last is.way, inl is.is.there.at.stands)

@@ -35,7 +35,7 @@ use Rattle.lq_run.proofs.Rooms.{no_entries}
 use Rattle.lq_run.specs.Commands.{HasDatabase, Leaves}
 use Rattle.lq_run.specs.Does.{AloneFor, Breaks, DoesAlone, HasNoRoom}
 use Rattle.lq_run.specs.Ends.{CameFrom}
-use Rattle.lq_run.specs.Left.{ClosesHeld, IsAtMostFreed, IsFullIn, LeavesCleared, LeavesLock, LeavesOnce, LeavesOpened, LeavesReleased, LeavesTagged, RestsIn, StopsIn}
+use Rattle.lq_run.specs.Left.{ClosesHeld, IsAtMostFreed, IsFullIn, LeavesCleared, LeavesLock, LeavesOnce, LeavesOpened, LeavesReleased, LeavesShort, LeavesTagged, RestsIn, RestsShortIn, StopsIn}
 use Rattle.lq_run.specs.Moves.{TakesLock}
 use Rattle.lq_run.specs.Stands.{HadRoom, IsBegun, Stands, entries_of}
 
@@ -100,9 +100,10 @@ module _ (d : Dialect) (number : ℕ) (x : State) (database : Database) (has : H
       }
 
   -- nothing was written
-  rests_still : (calls : List Call) (used next : ℕ) (full : IsFullIn d calls database x used next) → full.written ≡ [] → RestsIn d calls database x x used next
-  rests_still calls used next full none = record {
-    stops = record {
+
+  stops_still : (calls : List Call) → (stops : StopsIn d calls database x x) × (stops.written ≡ [])
+  stops_still calls = (
+    record {
       written = [];
       left = record { front = []; rest = (all_called d calls (session_on database)).entries; entries = refl; now = database; led = refl; is = inl refl };
       closes = inl ((all_called d calls (session_on database)).entries, refl);
@@ -112,12 +113,15 @@ module _ (d : Dialect) (number : ℕ) (x : State) (database : Database) (has : H
       limit = refl;
       entries = no_more x.entries;
       used = search rules;
-    };
-    full = full;
-    behind = inl (sym none);
-    shut = has.shut;
-    lock = inr (inr refl);
-  }
+    },
+    refl,
+  )
+
+  rests_still : (calls : List Call) (used next : ℕ) (full : IsFullIn d calls database x used next) → full.written ≡ [] → RestsIn d calls database x x used next
+  rests_still calls used next full none = let still = stops_still calls in record { stops = still.0; full = full; behind = inl (still.1 ∙ sym none); shut = has.shut; lock = inr (inr still.1) }
+
+  short_still : (calls : List Call) → RestsShortIn d calls database x x
+  short_still calls = let still = stops_still calls in record { stops = still.0; shut = has.shut; lock = inr (inr still.1) }
 
   -- where the store stands for a session that a stop may leave
   module _ (calls : List Call) (y : State) (s : Session) (came : CameFrom d (session_on database) s) (left : IsLeft d calls database [] s.entries) (closes : ClosesHeld d calls database s.entries) (stands : Stands x number y s) where
@@ -150,6 +154,16 @@ module _ (d : Dialect) (number : ℕ) (x : State) (database : Database) (has : H
           lock = subst (LeavesLock stops.0.now.lock full.more) (sym stops.1) (subst (λ (now : Database). LeavesLock now.lock full.more s.entries) (sym stops.2) lock);
         }
 
+    -- after want of memory
+    pub short_at : s.is_open ≡ false → LeavesShort d calls database s.committed.lock s.entries → RestsShortIn d calls database x y
+    short_at shut lock =
+        let stops = stands_left in
+        record {
+          stops = stops.0;
+          shut = none_open x.dialect number s y.begun stands.begun shut;
+          lock = subst (LeavesShort d calls database stops.0.now.lock) (sym stops.1) (subst (λ (now : Database). LeavesShort d calls database now.lock s.entries) (sym stops.2) lock);
+        }
+
   module _ (deeds : List Deed) (room : Room) (y : State) (which : (room ≡ Ordinary) ⊎ ((called d (Alone deeds room) (session_on database)).entries ≡ (Locks Freed ∷ []) ∷ [])) (never : (reason : Reason) → all_done d deeds database ≡ Err reason → ⊥) where
     pub leaves_once : (result : Result (Unit {0}) StoreFault) → DoesAlone x number x (session_on database) deeds room result y → LeavesOnce d (Alone deeds room ∷ []) database x result y
     leaves_once (Ok u) does = leaves_so (Alone deeds room ∷ []) y (executes_shut d deeds (session_on database)) (subst (λ e. Stands x number y (called e (Alone deeds room) (session_on database))) has.dialect does.2)
@@ -159,7 +173,7 @@ module _ (d : Dialect) (number : ℕ) (x : State) (database : Database) (has : H
     leaves_once (Err (fault.Full used next)) does =
         let full = full_once d database x (Alone deeds room) room used next (subst (λ e. HasNoRoom e room (Alone deeds room) (session_on database) x used next) has.dialect does.0) refl which in
         (does.1, subst (λ z. RestsIn d (Alone deeds room ∷ []) database x z used next) (sym does.1) (rests_still (Alone deeds room ∷ []) used next full.0 full.1))
-    leaves_once (Err fault.OutOfMemory) does = does
+    leaves_once (Err fault.OutOfMemory) does = (does, subst (λ z. RestsShortIn d (Alone deeds room ∷ []) database x z) (sym does) (short_still (Alone deeds room ∷ [])))
     leaves_once (Err (fault.Busy n)) does = does
     leaves_once (Err fault.NotSql) does = does
     leaves_once (Err (fault.Refused reason)) does = never reason (subst (λ e. all_done e deeds database ≡ Err reason) has.dialect does.0)

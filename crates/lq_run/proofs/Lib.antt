@@ -7,10 +7,10 @@ pub mod Stated
 mod WentOn
 mod Makes
 mod Takes
-mod Known
-mod Stepping
+pub mod Known
+pub mod Stepping
 pub mod Losing
-mod UnderWay
+pub mod UnderWay
 mod Names
 pub mod Grows
 pub mod Resting
@@ -23,12 +23,12 @@ pub mod Counting
 pub mod Beside
 pub mod Left
 pub mod Whole
-mod Stopped
+pub mod Stopped
 pub mod Replayed
 pub mod Behind
 pub mod Since
 mod CallCrashes
-mod Stopping
+pub mod Stopping
 mod Stops
-mod RunCrashes
+pub mod RunCrashes
 pub mod Scripts

@@ -74,7 +74,7 @@ closed_as last (Err why) = end_of why
 
 -- what stops a command
 
-no_turns : {Key : Type 0} (why : StoreFault) (refused : Option Refusal) (turns : Turns Key) (after : Option StoreFault) → after ≡ Some why → if_goes_on (enters_turns after refused) turns ≡ NoMore
+pub no_turns : {Key : Type 0} (why : StoreFault) (refused : Option Refusal) (turns : Turns Key) (after : Option StoreFault) → after ≡ Some why → if_goes_on (enters_turns after refused) turns ≡ NoMore
 no_turns why refused turns after is = ap (λ f. if_goes_on (enters_turns f refused) turns) is
 
 stopped_turns : {Key : Type 0} (f : Option StoreFault) (r : Option Refusal) (goes_on : Bool) (refusal : Refusal) (turns : Turns Key)
@@ -179,7 +179,7 @@ module _ {Key : Type 0} (d : Dialect) (m : Meaning Key) (stamp : Stamp) (number 
     pub seen_stands : start.dialect ≡ d → StandsFor d (seen number x) s.committed
     seen_stands is = subst (λ c. StandsFor d c s.committed) (sym is_shut.2) (subst (λ e. StandsFor e x.committed s.committed) is stands.committed)
 
-  lacks : (p : Place Key) (x start : State) (s : Session) → IsAt d m stamp number p x start s → s.is_open ≡ false → IsAt d m stamp number (between NoMore) x start s
+  pub lacks : (p : Place Key) (x start : State) (s : Session) → IsAt d m stamp number p x start s → s.is_open ≡ false → IsAt d m stamp number (between NoMore) x start s
   lacks p x start s is shut = record { dialect = is.dialect; stands = is.stands; ready = shut; fits = ap (λ b. (b && true) && true) is.row.1; row = is.row }
 
   -- at an end

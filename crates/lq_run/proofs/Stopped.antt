@@ -2,7 +2,7 @@
 use Rattle.std.proofs.Common.{ap, inl, inr, refl, subst, sym, ◌∙◌}
 use Rattle.std.proofs.lemmas.List.{append_assoc, append_cancel_left, map-append}
 use Rattle.std.specs.Option.{option_map}
-use Rattle.std.specs.Prelude.{List, None, Option, Some, [], false, ℕ, ◌++◌, ◌∷◌, ◌≡◌, ◌⊎◌}
+use Rattle.std.specs.Prelude.{List, None, Option, Some, [], false, map, ℕ, ◌++◌, ◌∷◌, ◌≡◌, ◌⊎◌}
 use Rattle.lq_base.specs.declared.dialect.Dialect.{Dialect}
 use Rattle.lq_base.specs.declared.tracking.Lock.{Lock}
 use Rattle.lq_drill.specs.Faults.{freed}
@@ -12,22 +12,24 @@ use Rattle.lq_store.specs.Calls.{Fails}
 use Rattle.lq_store.specs.Journal.{Entry, State}
 use Rattle.lq_track.specs.Database.{Database}
 use Rattle.lq_turns.proofs.Made.{calls_both}
-use Rattle.lq_turns.specs.Script.{closing}
+use Rattle.lq_turns.specs.Rest.{rest}
+use Rattle.lq_turns.specs.Script.{closing, opening}
 use Rattle.lq_turns.specs.Session.{Session, all_called, called, room_of, session_on}
 use Rattle.lq_turns.specs.Set.{Meaning}
 use Rattle.lq_turns.specs.Stops.{IsLeft, has_mark, is_mark}
 use Rattle.lq_turns.specs.declared.call.Call.{Call}
+use Rattle.lq_turns.specs.declared.call.Call.TheVariants.{Alone}
 use Rattle.lq_turns.specs.declared.deed.Deed.TheVariants.{Locks}
 use Rattle.lq_turns.specs.declared.deed.OnLock.TheVariants.{Freed}
 use Rattle.lq_turns.specs.declared.stamp.Stamp.{Stamp}
-use Rattle.lq_run.proofs.Begins.{script_closes}
+use Rattle.lq_run.proofs.Begins.{opened, script_closes}
 use Rattle.lq_run.proofs.Grows.{came_on, closing_entry}
-use Rattle.lq_run.proofs.Left.{leads, rests_at, stands_left, stands_there}
+use Rattle.lq_run.proofs.Left.{leads, rests_at, short_at, stands_there}
 use Rattle.lq_run.proofs.Resting.{closing_frees, closing_shuts, marked_some}
-use Rattle.lq_run.specs.Commands.{HasDatabase, IsNew, RunsWhole, script}
-use Rattle.lq_run.specs.Ends.{BreaksBefore, CameFrom, EndsAs, IsAtLock, IsBefore, IsFullBefore, IsFullSince, IsToCome, RestsAs, RestsBefore, StandsBefore, StaysFull}
-use Rattle.lq_run.specs.Stands.{IsBare, IsMarked, Stands, entries_of, entry_of}
-use Rattle.lq_run.specs.Left.{BreaksIn, ClosesHeld, HasClosing, IsAtMostFreed, IsFullIn, LeavesLock, LeftAll, LeftAs, RestsIn, StopsIn}
+use Rattle.lq_run.specs.Commands.{HasDatabase, IsNew, RunsWhole, both_on, script}
+use Rattle.lq_run.specs.Ends.{BreaksBefore, CameFrom, EndsAs, IsAtLock, IsBefore, IsFullBefore, IsFullSince, IsToCome, LetsGo, RestsAs, RestsBefore, RestsShort, RestsShortAs, StaysFull}
+use Rattle.lq_run.specs.Stands.{IsBare, Stands, entries_of, entry_of}
+use Rattle.lq_run.specs.Left.{BreaksIn, ClosesHeld, HasClosing, IsAsTaken, IsAtMostFreed, IsFullIn, LeavesLock, LeavesShort, LeftAll, LeftAs, RestsIn, RestsShortIn}
 use Rattle.lq_run.specs.Steps.{Standing, place}
 use Rattle.lq_run.specs.declared.runner.End.{End}
 use Rattle.lq_run.specs.declared.runner.End.TheVariants as end
@@ -79,12 +81,6 @@ module _ {Key : Type 0} (d : Dialect) (m : Meaning Key) (stamp : Stamp) (number 
   held_called : (s : Session) (call : Call) → CameFrom d (session_on database) s → IsToCome d m stamp number x (session_on database) last call s → ClosesHeld d calls database (called d call s).entries
   held_called s call came (inl before) = front_before (called d call s) before
   held_called s call came (inr early) = subst (λ c. ClosesHeld d calls database (called d c s).entries) (sym early.0) (held_closed s came early.3 early.1 early.2)
-
-  stops_in : StandsBefore d m stamp number x (session_on database) last y → StopsIn d calls database x y
-  stops_in is = by is.3 where
-    by : (Stands x number y is.0 ⊎ (IsBare stamp is.0.committed.lock × (is.0.begun ≡ []) × Stands x number y (called d closing is.0))) → StopsIn d calls database x y
-    by (inl stands) = (stands_left d number x database has calls y is.0 is.1 (left_before is.0 is.1 is.2) (front_before is.0 is.2) stands).0
-    by (inr early) = (stands_left d number x database has calls y (called d closing is.0) (came_on d (session_on database) is.0 closing is.1) (left_closed is.0 is.1 is.2 early.0 early.1) (held_closed is.0 is.1 is.2 early.0 early.1) early.2).0
 
   module _ (is : BreaksBefore d m stamp number x (session_on database) last y) where
     abbrev next : Session
@@ -165,7 +161,7 @@ module _ {Key : Type 0} (d : Dialect) (m : Meaning Key) (stamp : Stamp) (number 
       rests_there : Stands x number y is.s → LeavesLock is.s.committed.lock told.0.more is.s.entries → RestsIn d calls database x y used more
       rests_there stands lock = rests_at d number x database has calls y is.s is.came (left_before is.s is.came is.before) (front_before is.s is.before) stands is.shut.0 used more told.0 (behind_so is.s (inl refl)) lock
 
-      lets_go : ((IsBare stamp is.s.committed.lock × Stands x number y (called d closing is.s)) ⊎ (IsMarked stamp is.s.committed.lock × Stands x number y is.s)) → RestsIn d calls database x y used more
+      lets_go : LetsGo d m stamp number x (session_on database) last is.s y → RestsIn d calls database x y used more
       lets_go (inl bare) =
           rests_at d number x database has calls y (called d closing is.s) (came_on d (session_on database) is.s closing is.came) (left_closed is.s is.came is.before bare.0 is.shut.1) (held_closed is.s is.came is.before bare.0 is.shut.1) bare.1 (closing_shuts d is.s)
           used more told.0 (behind_so (called d closing is.s) (inr (closing_entry d is.s is.shut.1))) (inl (inl (closing_frees d is.s)))
@@ -185,15 +181,33 @@ module _ {Key : Type 0} (d : Dialect) (m : Meaning Key) (stamp : Stamp) (number 
       by (inl gone) = lets_go (since gone.0) gone.1
       by (inr still) = at_lock still.1.0 still.0 still.1.1
 
-  left_as : (e : End) → EndsAs d m stamp number x (session_on database) last false None e y → LeftAs d calls database x e y
-  left_as end.Done ends = tt
-  left_as (end.Refused refusal) ends = tt
-  left_as (end.Locked lock) ends = tt
-  left_as end.Disk ends = breaks_in ends
-  left_as (end.Full used more) ends = rests_in used more ends.1
-  left_as end.OutOfMemory ends = stops_in ends
+  -- and so after want of memory, where the first of the calls takes the lock
+  module _ (is : RestsShort d m stamp number x (session_on database) last false y) (takes : IsBare stamp is.s.committed.lock → IsAsTaken d calls database is.s.committed.lock) where
+    short_there : Stands x number y is.s → LeavesShort d calls database is.s.committed.lock is.s.entries → RestsShortIn d calls database x y
+    short_there stands lock = short_at d number x database has calls y is.s is.came (left_before is.s is.came is.before) (front_before is.s is.before) stands is.shut.0 lock
+
+    short_gone : LetsGo d m stamp number x (session_on database) last is.s y → RestsShortIn d calls database x y
+    short_gone (inl bare) =
+        short_at d number x database has calls y (called d closing is.s) (came_on d (session_on database) is.s closing is.came) (left_closed is.s is.came is.before bare.0 is.shut.1) (held_closed is.s is.came is.before bare.0 is.shut.1) bare.1 (closing_shuts d is.s)
+        (inl (inl (closing_frees d is.s)))
+    short_gone (inr marked) = short_there marked.1 (inl (inr (marked_some stamp is.s.committed.lock marked.0)))
+
+    short_in : RestsShortIn d calls database x y
+    short_in = by is.rests where
+      by : RestsShortAs d m stamp number x (session_on database) last false is.s y → RestsShortIn d calls database x y
+      by (inl gone) = short_gone gone
+      by (inr still) = short_there still.0 (inr (elim still.1 [ inl bare ↦ inl (takes bare) | inr opens ↦ inr opens.1 ]))
+
+  left_as : (takes : (lock : Lock) → IsBare stamp lock → IsAsTaken d calls database lock) (e : End) → EndsAs d m stamp number x (session_on database) last false None e y → LeftAs d calls database x e y
+  left_as takes end.Done ends = tt
+  left_as takes (end.Refused refusal) ends = tt
+  left_as takes (end.Locked lock) ends = tt
+  left_as takes end.Disk ends = breaks_in ends
+  left_as takes (end.Full used more) ends = rests_in used more ends.1
+  left_as takes end.OutOfMemory ends = short_in ends.1 (takes ends.1.s.committed.lock)
 
 pub left_all : {Key Told : Type 0} (d : Dialect) (m : Meaning Key) (stamp : Stamp) (number : ℕ) (r : Standing Key Told) → IsNew d m stamp r → (x y : State) (e : End) → RunsWhole d m stamp number r x e y → LeftAll d m stamp r x e y
 left_all d m stamp number r new x y e whole unmarked database told has known fits =
-    left_as d m stamp number unmarked x y database has (script d m stamp (place r) database) (script_closes d m stamp r new database) e
+    left_as d m stamp number unmarked x y database has (script d m stamp (place r) database) (script_closes d m stamp r new database)
+    (λ lock bare. record { first = Alone (map Locks (opening stamp database)) Ordinary; others = rest d m stamp (place r) (both_on database); is = refl; same = bare ∙ sym (opened d m stamp number database []).committed }) e
     (whole x (session_on database) told (record { dialect = has.dialect; stands = stands_there d number x database has; shut = refl; known = known; fits = fits }))

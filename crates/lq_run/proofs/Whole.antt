@@ -1,6 +1,6 @@
 -- From the call that takes the lock to the end.
 use Rattle.std.proofs.Common.{ap, inl, inr, refl, subst, sym, ◌∙◌}
-use Rattle.std.specs.Prelude.{Err, List, None, Ok, Option, Some, [], false, map, true, ℕ, ◌++◌, ◌∷◌, ◌≡◌}
+use Rattle.std.specs.Prelude.{Err, List, None, Ok, Option, Some, [], false, map, true, ℕ, ◌++◌, ◌∷◌, ◌≡◌, ◌⊎◌}
 use Rattle.lq_base.specs.declared.dialect.Dialect.{Dialect}
 use Rattle.lq_model.proofs.Lists.{and_right}
 use Rattle.lq_model.specs.declared.caller.Room.TheVariants.{Ordinary}
@@ -26,9 +26,9 @@ use Rattle.lq_run.proofs.Grows.{calls_grow, came_all}
 use Rattle.lq_run.proofs.Left.{all_taken, leaves_so, ok_err, stands_there}
 use Rattle.lq_run.specs.Commands.{HasDatabase, IsNew, Leaves, LeavesAll, LeavesAs, MayRun, RunsWhole, TellsAll, both_on, script}
 use Rattle.lq_run.specs.Does.{Breaks, DoesAlone}
-use Rattle.lq_run.specs.Ends.{CameFrom, EndsAs, IsAtLock, IsBefore, IsFullBefore, IsFullSince, IsRunning, RestsAs, RestsBefore, Runs, RunsOn, StaysFull, TellsOn, at_end}
+use Rattle.lq_run.specs.Ends.{CameFrom, EndsAs, IsAtLock, IsBefore, IsFullBefore, IsFullSince, IsRunning, RestsAs, RestsBefore, RestsShort, RestsShortAs, Runs, RunsOn, StaysFull, TellsOn, at_end}
 use Rattle.lq_run.specs.Moves.{TakesLock}
-use Rattle.lq_run.specs.Stands.{IsBegun, Stands}
+use Rattle.lq_run.specs.Stands.{IsBare, IsBegun, Stands}
 use Rattle.lq_run.specs.Steps.{Standing, end_of, place, AfterFault, TellsTo}
 use Rattle.lq_run.specs.declared.runner.End.{End}
 use Rattle.lq_run.specs.declared.runner.End.TheVariants as end
@@ -82,7 +82,9 @@ module _ {Key Told : Type 0} (d : Dialect) (m : Meaning Key) (stamp : Stamp) (nu
         (at_rest, here, before, inl still),
         record { s = at_rest; came = here; before = before; shut = (refl, refl); rests = inr (still, ((full.0, ap (λ (t : Session). t.entries) (sym full.1)), inr (refl, full.2, refl))) },
       )
-  fails fault.OutOfMemory does = (at_rest, here, before, inl (subst (λ z. Stands start number z at_rest) (sym does) stands))
+  fails fault.OutOfMemory does =
+      let still : Stands start number y at_rest = subst (λ z. Stands start number z at_rest) (sym does) stands in
+      ((at_rest, here, before, inl still), record { s = at_rest; came = here; before = before; shut = (refl, refl); rests = inr (still, inr (refl, refl)) })
   fails (fault.Busy n) does = absurd does
   fails fault.NotSql does = absurd does
   fails (fault.Refused reason) does = let it = all_taken start.dialect (opening stamp s.committed) s.committed in absurd (ok_err (sym it.1 ∙ does.0))
@@ -140,6 +142,18 @@ module _ {Key Told : Type 0} (d : Dialect) (m : Meaning Key) (stamp : Stamp) (nu
     ends_since : (z : State) → RestsBefore d m stamp number start next to true None used more z → RestsBefore d m stamp number start first to false None used more z
     ends_since z is = record { s = is.s; came = came_all d first next is.s came is.came; before = is.before; shut = is.shut; rests = rests_since is.s z is.rests }
 
+  -- and so after want of memory
+  module _ (first next to : Session) (came : CameFrom d first next) where
+    short_since : (t : Session) (z : State) → RestsShortAs d m stamp number start next to true t z → RestsShortAs d m stamp number start first to false t z
+    short_since t z (inl gone) = inl gone
+    short_since t z (inr still) = inr (still.0, by still.1) where
+      by : (IsBare stamp t.committed.lock ⊎ ((true ≡ false) × (t.entries ≡ next.entries))) → IsBare stamp t.committed.lock ⊎ ((false ≡ false) × (t.entries ≡ first.entries))
+      by (inl bare) = inl bare
+      by (inr opens) = absurd (not_true (sym opens.0))
+
+    rests_short : (z : State) → RestsShort d m stamp number start next to true z → RestsShort d m stamp number start first to false z
+    rests_short z is = record { s = is.s; came = came_all d first next is.s came is.came; before = is.before; shut = is.shut; rests = short_since is.s z is.rests }
+
   -- what ends so since a session ends so since one that came before it
   since : (first next to : Session) (e : End) (z : State) → CameFrom d first next → EndsAs d m stamp number start next to true None e z → EndsAs d m stamp number start first to false None e z
   since first next to end.Done z came ends = ends
@@ -147,7 +161,7 @@ module _ {Key Told : Type 0} (d : Dialect) (m : Meaning Key) (stamp : Stamp) (nu
   since first next to (end.Locked lock) z came ends = ends
   since first next to end.Disk z came ends = record { s = ends.s; x = ends.x; stands = ends.stands; came = came_all d first next ends.s came ends.came; call = ends.call; breaks = ends.breaks; before = ends.before }
   since first next to (end.Full used more) z came ends = ((ends.0.0, came_all d first next ends.0.0 came ends.0.1, ends.0.2, ends.0.3), ends_since first next to used more came z ends.1)
-  since first next to end.OutOfMemory z came ends = (ends.0, came_all d first next ends.0 came ends.1, ends.2, ends.3)
+  since first next to end.OutOfMemory z came ends = ((ends.0.0, came_all d first next ends.0.0 came ends.0.1, ends.0.2, ends.0.3), rests_short first next to came z ends.1)
 
   pub opens : IsNew d m stamp r → TakesLock d stamp number x (Ok tt) y → Runs d m stamp number r y
   opens new takes = record { start = start; session = first_session d m stamp number s.committed s.entries; told = told; is = is_taken new takes }

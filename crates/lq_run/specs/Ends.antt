@@ -132,10 +132,13 @@ module _ {Key : Type 0} (d : Dialect) (m : Meaning Key) (stamp : Stamp) (number 
     abbrev pub IsAtLock : Bool → Call → Session → Type 0
     IsAtLock taken call s = (call ≡ closing) ⊎ ((taken ≡ false) × (call ≡ Alone (map Locks (opening stamp first.committed)) Ordinary) × (s.entries ≡ first.entries))
 
-    -- How a full journal leaves the lock: it was freed, where it had no mark; or it has a mark; or there was no room for the call that frees it, or for the one that takes it.
+    -- the lock was freed, where it had no mark; or it has a mark
+    abbrev pub LetsGo : Session → State → Type 0
+    LetsGo s y = (IsBare stamp s.committed.lock × Stands start number y (called d closing s)) ⊎ (IsMarked stamp s.committed.lock × Stands start number y s)
+
+    -- How a full journal leaves the lock: it is let go; or there was no room for the call that frees it, or for the one that takes it.
     abbrev pub RestsAs : Bool → Option StoreFault → ℕ → ℕ → Session → State → Type 0
-    RestsAs taken met used next s y = (IsFullSince met used next s × ((IsBare stamp s.committed.lock × Stands start number y (called d closing s)) ⊎ (IsMarked stamp s.committed.lock × Stands start number y s)))
-        ⊎ (Stands start number y s × ((full : StaysFull used next s) × IsAtLock taken full.0.call s))
+    RestsAs taken met used next s y = (IsFullSince met used next s × LetsGo s y) ⊎ (Stands start number y s × ((full : StaysFull used next s) × IsAtLock taken full.0.call s))
 
     -- it ended on the way, and no transaction is open
     pub record RestsBefore (taken : Bool) (met : Option StoreFault) (used next : ℕ) (y : State) : Type 0 where
@@ -145,6 +148,18 @@ module _ {Key : Type 0} (d : Dialect) (m : Meaning Key) (stamp : Stamp) (number 
       pub shut : (s.is_open ≡ false) × (s.begun ≡ [])
       pub rests : RestsAs taken met used next s y
 
+    -- How want of memory leaves it: it is let go; or there was no memory for the call that frees it, or for the one that takes it.
+    abbrev pub RestsShortAs : Bool → Session → State → Type 0
+    RestsShortAs taken s y = LetsGo s y ⊎ (Stands start number y s × (IsBare stamp s.committed.lock ⊎ ((taken ≡ false) × (s.entries ≡ first.entries))))
+
+    -- it ended on the way, and no transaction is open
+    pub record RestsShort (taken : Bool) (y : State) : Type 0 where
+      pub s : Session
+      pub came : CameFrom d first s
+      pub before : IsBefore s last
+      pub shut : (s.is_open ≡ false) × (s.begun ≡ [])
+      pub rests : RestsShortAs taken s y
+
     -- how the calls end from the first session on, which may have taken the lock; without a fault the store stands for the last one
     abbrev pub EndsAs : Bool → Option StoreFault → End → State → Type 0
     EndsAs taken met end.Done y = Stands start number y last
@@ -152,7 +167,7 @@ module _ {Key : Type 0} (d : Dialect) (m : Meaning Key) (stamp : Stamp) (number 
     EndsAs taken met (end.Locked lock) y = ⊥
     EndsAs taken met end.Disk y = BreaksBefore y
     EndsAs taken met (end.Full used next) y = StandsBefore y × RestsBefore taken met used next y
-    EndsAs taken met end.OutOfMemory y = StandsBefore y
+    EndsAs taken met end.OutOfMemory y = StandsBefore y × RestsShort taken y
 
 module _ {Key Told : Type 0} (d : Dialect) (m : Meaning Key) (stamp : Stamp) (number : ℕ) where
   -- The store stands for a session at the command's place, and the command holds the lock until its last call.

@@ -109,12 +109,29 @@ pub record RestsIn (d : Dialect) (calls : List Call) (database : Database) (x y 
   pub shut : y.begun ≡ None
   pub lock : LeavesLock stops.now.lock full.more stops.written
 
+-- the lock is as the first of these calls left it
+pub record IsAsTaken (d : Dialect) (calls : List Call) (database : Database) (lock : Lock) : Type 0 where
+  pub first : Call
+  pub others : List Call
+  pub is : calls ≡ first ∷ others
+  pub same : lock ≡ (called d first (session_on database)).committed.lock
+
+-- How the lock is left where want of memory ended these calls: it is let go; or there was no memory for the call that frees it; or nothing was written.
+abbrev pub LeavesShort : Dialect → List Call → Database → Lock → Journal → Type 0
+LeavesShort d calls database lock written = IsLetGo lock ⊎ (IsAsTaken d calls database lock ⊎ (written ≡ []))
+
+-- Where want of memory ended these calls: the journal goes on with what was written by then, and possibly the entry that frees the lock. No transaction is open.
+pub record RestsShortIn (d : Dialect) (calls : List Call) (database : Database) (x y : State) : Type 0 where
+  pub stops : StopsIn d calls database x y
+  pub shut : y.begun ≡ None
+  pub lock : LeavesShort d calls database stops.now.lock stops.written
+
 -- done, it leaves what the call does; only a fault of the disk leaves something, a front of its entry; nothing is refused
 abbrev pub LeavesOnce : Dialect → List Call → Database → State → Result (Unit {0}) StoreFault → State → Type 0
 LeavesOnce d calls database x (Ok u) y = Leaves d calls database x y
 LeavesOnce d calls database x (Err fault.Disk) y = Fails (entries_of d (all_called d calls (session_on database)).entries) x y
 LeavesOnce d calls database x (Err (fault.Full used next)) y = (y ≡ x) × RestsIn d calls database x y used next
-LeavesOnce d calls database x (Err fault.OutOfMemory) y = y ≡ x
+LeavesOnce d calls database x (Err fault.OutOfMemory) y = (y ≡ x) × RestsShortIn d calls database x y
 LeavesOnce d calls database x (Err (fault.Busy n)) y = ⊥
 LeavesOnce d calls database x (Err fault.NotSql) y = ⊥
 LeavesOnce d calls database x (Err (fault.Refused reason)) y = ⊥
@@ -152,7 +169,7 @@ LeftAs d calls database x (end.Refused refusal) y = Unit {0}
 LeftAs d calls database x (end.Locked lock) y = Unit {0}
 LeftAs d calls database x end.Disk y = BreaksIn d calls database x y
 LeftAs d calls database x (end.Full used next) y = RestsIn d calls database x y used next
-LeftAs d calls database x end.OutOfMemory y = StopsIn d calls database x y
+LeftAs d calls database x end.OutOfMemory y = RestsShortIn d calls database x y
 
 -- on every database whose contents are known, and on which its calls fit, where the command's name has no mark of its own
 abbrev pub LeftAll : {Key Told : Type 0} → Dialect → Meaning Key → Stamp → Standing Key Told → State → End → State → Type 0

@@ -805,7 +805,8 @@ fn taken<T: Source>(source: &mut T, hand: &Hand)
     source.finished();
 }
 
-fn no_turn(alloc: Global) -> Hand
+/// No turn is in hand.
+pub fn no_turn(alloc: Global) -> Hand
     ensures { result ≡ no_turn }
 {
     Hand {

@@ -5,12 +5,13 @@ ghost use Rattle.lq_outside.specs.Forms.{Rose};
 ghost use Rattle.lq_run.specs.Beside.{is_disk_end};
 ghost use Rattle.lq_run.specs.Steps.{is_over, standing};
 
-use crate::runner::{End, Runner, Step};
+use crate::breaking::break_off;
 use lq_hand::Source;
 use lq_model::SqlText;
+use lq_run::{End, Runner, Step};
 use lq_store::Store;
 
-/// Makes all calls that a command has still to make. After 2^64 - 1 of them it gives up.
+/// Makes all calls that a command has still to make. After 2^64 - 1 of them it is broken off.
 ///
 /// Where it is done, or a statement was refused, the store stands for what the whole script leaves.
 /// After a fault of the store it stands for what a front of the script leaves, and the lock may be free
@@ -40,6 +41,7 @@ pub fn run_on<T: Source + Drop, S: Store, P: SqlText>(
         (standing T.left T.way runner.old) (S.state store.old) result (T.way runner.new.source) }
     ensures later { S.faults store.old ≤ S.faults store.new }
     ensures rose { is_disk_end result ≡ true → Rose (S.faults store.old) (S.faults store.new) }
+    ensures over { is_over runner.new.hand.phase ≡ true }
 {
     for _ in 0..u64::MAX {
         match runner.step(session, store, sql) {
@@ -47,5 +49,5 @@ pub fn run_on<T: Source + Drop, S: Store, P: SqlText>(
             Step::Ended(end) => return end,
         }
     }
-    End::OutOfMemory
+    break_off(runner, session, store, sql)
 }

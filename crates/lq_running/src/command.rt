@@ -6,11 +6,10 @@ ghost use Rattle.lq_outside.specs.Forms.{Rose};
 ghost use Rattle.lq_run.specs.Beside.{is_disk_end};
 ghost use Rattle.lq_run.specs.Steps.{standing};
 
-use crate::alone::take_lock;
-use crate::runner::{End, Runner, end_of};
 use crate::running::run_on;
 use lq_hand::Source;
 use lq_model::SqlText;
+use lq_run::{End, Runner, end_of, take_lock};
 use lq_statement::laws::statements_read_back;
 use lq_store::Store;
 

@@ -2,15 +2,16 @@ use Rattle.std.proofs.Common.{inl, inr, le_trans, refl, rules, subst, sym, ◌�
 use Rattle.std.specs.Prelude.{[]}
 use Rattle.lq_hand.specs.Hand.{IsReady}
 use Rattle.lq_run.proofs.Counting.{rose_later}
-use Rattle.lq_run.proofs.Ending.{ends, reaches, ready_at, stops, tells}
+use Rattle.lq_run.proofs.Ending.{before_last, ends, reaches, ready_at, tells}
 use Rattle.lq_run.proofs.RunCrashes.{step_crash}
 use Rattle.lq_run.proofs.Since.{leave_none, leave_then}
 use Rattle.lq_run.specs.Crashing.{CrashesStep, LeftInRun}
-use Rattle.lq_run.specs.Ends.{at_end}
+use Rattle.lq_run.specs.Ends.{Runs, TellsOn, at_end}
 use Rattle.lq_run.specs.Steps.{Steps, place, standing, Stays}
 use Rattle.lq_run.specs.declared.runner.Step.TheVariants as step
+use Rattle.lq_running.specs.Breaking.{BreaksOff, CrashesOff}
 use Rattle.lq_store.specs.Journal.{is_open}
-use Rattle.lq_run.proofs.running.run_on.Goals as goal
+use Rattle.lq_running.proofs.running.run_on.Goals as goal
 
 pub loop-init : goal.loop-init
 loop-init g c = record { valid = c.requires.valid; dialect = refl; stamp = refl; reads = c.requires.reads; begun = c.requires.begun; disk = c.requires.runs.is.disk; later = search rules; reaches = λ start s told is. (record { session = s; came = record { calls = []; is = refl }; is = is; way = inl refl }, λ used next same. inr same); under_way = λ start s told is met. met; crash = λ start s told is. leave_none start.entries _ (g.S.Store.crashes c.args.store.now) }
@@ -86,18 +87,56 @@ returns-in-Ended-clause-tells g c =
           start here.session told here.is.there (λ there. here.is.committed) (k.under_way start s told is met)),
     )
 
+pub break_off-requires-clause-runs : goal.break_off-requires-clause-runs
+break_off-requires-clause-runs g c =
+    let k = c.loop.invariant in
+    let r = c.args.runner.now in
+    let here = (k.reaches c.requires.runs.start c.requires.runs.session c.requires.runs.told c.requires.runs.is).0 in
+    subst (λ d. Runs d g.T.Source.meaning c.loop.runner.stamp c.args.session (standing g.T.Source.left g.T.Source.way c.loop.runner) (g.S.Store.state c.loop.store)) (sym k.dialect)
+    (subst (λ t. Runs r.dialect g.T.Source.meaning t c.args.session (standing g.T.Source.left g.T.Source.way c.loop.runner) (g.S.Store.state c.loop.store)) (sym k.stamp)
+    (record { start = c.requires.runs.start; session = here.session; told = c.requires.runs.told; is = here.is }))
+
 pub returns-clause-ends : goal.returns-clause-ends
 returns-clause-ends g c =
     let k = c.loop.invariant in
     let r = c.args.runner.now in
-    λ start s told is. stops r.dialect g.T.Source.meaning r.stamp c.args.session (standing g.T.Source.left g.T.Source.way c.loop.runner) told start s (at_end r.dialect g.T.Source.meaning r.stamp c.args.session (place (standing g.T.Source.left g.T.Source.way r)) s)
-    (g.S.Store.state c.loop.store) r.fault (k.reaches start s told is).0
+    let now = standing g.T.Source.left g.T.Source.way c.loop.runner in
+    λ start s told is.
+    let here = (k.reaches start s told is).0 in
+    let last = at_end r.dialect g.T.Source.meaning r.stamp c.args.session (place (standing g.T.Source.left g.T.Source.way r)) s in
+    (subst (λ d. BreaksOff d g.T.Source.meaning r.stamp c.args.session now (g.S.Store.state c.loop.store) c.break_off.result (g.S.Store.state c.break_off.new.store)) k.dialect
+    (subst (λ t. BreaksOff c.loop.runner.dialect g.T.Source.meaning t c.args.session now (g.S.Store.state c.loop.store) c.break_off.result (g.S.Store.state c.break_off.new.store)) k.stamp c.break_off.ensures.ends))
+    start s last here.session told here.is here.came (before_last r.dialect g.T.Source.meaning r.stamp c.args.session now here.session last here.way) r.fault
+
+pub returns-clause-crash : goal.returns-clause-crash
+returns-clause-crash g c =
+    let k = c.loop.invariant in
+    let r = c.args.runner.now in
+    let now = standing g.T.Source.left g.T.Source.way c.loop.runner in
+    λ start s told is.
+    let here = (k.reaches start s told is).0 in
+    let last = at_end r.dialect g.T.Source.meaning r.stamp c.args.session (place (standing g.T.Source.left g.T.Source.way r)) s in
+    leave_then start.entries (LeftInRun r.dialect r.stamp s last) (g.S.Store.crashes c.args.store.now) (g.S.Store.crashes c.loop.store) (g.S.Store.crashes c.break_off.new.store) (k.crash start s told is)
+    ((subst (λ d. CrashesOff d g.T.Source.meaning r.stamp c.args.session now (g.S.Store.state c.loop.store) (g.S.Store.crashes c.loop.store) (g.S.Store.crashes c.break_off.new.store)) k.dialect
+    (subst (λ t. CrashesOff c.loop.runner.dialect g.T.Source.meaning t c.args.session now (g.S.Store.state c.loop.store) (g.S.Store.crashes c.loop.store) (g.S.Store.crashes c.break_off.new.store)) k.stamp c.break_off.ensures.crash))
+    start s last here.session told here.is here.came (before_last r.dialect g.T.Source.meaning r.stamp c.args.session now here.session last here.way))
+
+pub returns-clause-tells : goal.returns-clause-tells
+returns-clause-tells g c =
+    let k = c.loop.invariant in
+    let r = c.args.runner.now in
+    let now = standing g.T.Source.left g.T.Source.way c.loop.runner in
+    λ start s told is met.
+    let here = (k.reaches start s told is).0 in
+    (subst (λ d. TellsOn d g.T.Source.meaning r.stamp c.args.session now (g.S.Store.state c.loop.store) c.break_off.result (g.T.Source.way c.break_off.new.runner.source)) k.dialect
+    (subst (λ t. TellsOn c.loop.runner.dialect g.T.Source.meaning t c.args.session now (g.S.Store.state c.loop.store) c.break_off.result (g.T.Source.way c.break_off.new.runner.source)) k.stamp c.break_off.ensures.tells))
+    start here.session told here.is (k.under_way start s told is met)
+
+pub returns-clause-rose : goal.returns-clause-rose
+returns-clause-rose g c = λ is. rose_later (g.S.Store.faults c.args.store.now) (g.S.Store.faults c.loop.store) (g.S.Store.faults c.break_off.new.store) c.loop.invariant.later (c.break_off.ensures.rose is)
 
 pub returns-in-Ended-clause-rose : goal.returns-in-Ended-clause-rose
 returns-in-Ended-clause-rose g c = λ is. rose_later (g.S.Store.faults c.args.store.now) (g.S.Store.faults c.loop.store) (g.S.Store.faults c.step.new.store) c.loop.invariant.later (c.in-Ended.ensures.rose is)
-
-pub returns-clause-tells : goal.returns-clause-tells
-returns-clause-tells g c = λ start s told is met. (tt, tt)
 
 pub returns-in-Ended-clause-crash : goal.returns-in-Ended-clause-crash
 returns-in-Ended-clause-crash g c =

@@ -6,7 +6,7 @@ use Rattle.lq_turns.specs.Session.{Session}
 use Rattle.lq_run.specs.Crashing.{CrashesOn}
 use Rattle.lq_run.specs.Ends.{IsRunning, KeepsFull, Reaches, at_end, disk_failed}
 use Rattle.lq_run.specs.Steps.{is_over, place, standing, IsAfterFault}
-use Rattle.lq_run.proofs.running.run_on.Given as goal
+use Rattle.lq_running.proofs.running.run_on.Given as goal
 
 -- wherever it began, it is on the way to the same end
 abbrev pub invariant-loop : goal.invariant-loop

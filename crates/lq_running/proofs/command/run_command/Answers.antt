@@ -14,7 +14,7 @@ use Rattle.lq_run.specs.Beside.{is_disk_end}
 use Rattle.lq_run.proofs.Known.{tells_fault}
 use Rattle.lq_run.proofs.Counting.{end_disk, is_the_disk, rose_later}
 use Rattle.lq_run.proofs.Stopping.{begun, not_begun}
-use Rattle.lq_run.proofs.command.run_command.Goals as goal
+use Rattle.lq_running.proofs.command.run_command.Goals as goal
 
 pub take_lock-requires-clause-live : goal.take_lock-requires-clause-live
 take_lock-requires-clause-live g c = c.requires.may_run.is.stands.live
