@@ -37,14 +37,14 @@ use Rattle.lq_turns.specs.declared.deed.Deed.TheVariants.{Locks}
 use Rattle.lq_turns.specs.declared.deed.OnLock.TheVariants.{Freed}
 use Rattle.lq_turns.specs.declared.stamp.Stamp.{Stamp}
 use Rattle.lq_top.proofs.AsRunner.{calls_same, checked_of, last_answer, last_finished, refusal_told, status_said, task_of}
-use Rattle.lq_top.proofs.InPart.{command_on_file, runs_command, same_dialect, says_command}
+use Rattle.lq_jobs.proofs.InPart.{command_on_file, runs_command, same_dialect, says_command}
 use Rattle.lq_top.proofs.OneRunner.{Follows, follows, refused}
-use Rattle.lq_top.proofs.Unchanged.{becomes_same, left_same, no_room}
-use Rattle.lq_top.specs.Players.{EndsWith, HasAnswered, IsCutShort, TakesSteps, WasCutShort, status_of}
-use Rattle.lq_top.specs.Asks.{Asks, Files}
-use Rattle.lq_top.specs.Bytes.{Becomes, HadRoomOn, Holds, IsLeftOn, Opens, in_use, most_bytes}
-use Rattle.lq_top.specs.Run.{EndsBy, IsOutside, Runs, RunsJob, given_by, is_end, is_over}
-use Rattle.lq_top.specs.Says.{Said, SaysJob}
+use Rattle.lq_jobs.proofs.Unchanged.{becomes_same, left_same, no_room}
+use Rattle.lq_drills.specs.Players.{EndsWith, HasAnswered, IsCutShort, TakesSteps, WasCutShort, status_of}
+use Rattle.lq_jobs.specs.Asks.{Asks, Files}
+use Rattle.lq_jobs.specs.Bytes.{Becomes, HadRoomOn, Holds, IsLeftOn, Opens, in_use, most_bytes}
+use Rattle.lq_jobs.specs.Run.{EndsBy, IsOutside, Runs, RunsJob, given_by, is_end, is_over}
+use Rattle.lq_jobs.specs.Says.{Said, SaysJob}
 
 false_true : false ≡ true → ⊥
 false_true h = Prim.cc

@@ -34,8 +34,8 @@ use Rattle.lq_turns.specs.declared.fault.Fault.{Fault}
 use Rattle.lq_turns.specs.declared.stop.Stop.{Stop}
 use Rattle.lq_turns.specs.declared.stop.Stop.TheVariants.{Halted, Refused}
 use Rattle.lq_turns.specs.declared.turn.Turn.{Turn}
-use Rattle.lq_top.specs.Players.{status_of}
-use Rattle.lq_top.specs.Says.{SaysJob}
+use Rattle.lq_drills.specs.Players.{status_of}
+use Rattle.lq_jobs.specs.Says.{SaysJob}
 
 -- a refusal, as its runner answers it
 abbrev told : Option Answer → Option Status

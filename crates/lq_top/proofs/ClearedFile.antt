@@ -7,11 +7,11 @@ use Rattle.lq_track.specs.Database.{Database}
 use Rattle.lq_turns.proofs.AtOnce.{clear_leaves}
 use Rattle.lq_turns.specs.Session.{left_by}
 use Rattle.lq_turns.specs.declared.stamp.Stamp.{Stamp}
-use Rattle.lq_top.specs.Asks.{Asks, Files}
-use Rattle.lq_top.specs.Bytes.{Holds}
-use Rattle.lq_top.specs.Headline.{HasCleared}
-use Rattle.lq_top.specs.Jobs.{is_on_file, job_script}
-use Rattle.lq_top.specs.Run.{Runs, given_by}
+use Rattle.lq_jobs.specs.Asks.{Asks, Files}
+use Rattle.lq_jobs.specs.Bytes.{Holds}
+use Rattle.lq_jobs.specs.Headline.{HasCleared}
+use Rattle.lq_jobs.specs.Jobs.{is_on_file, job_script}
+use Rattle.lq_jobs.specs.Run.{Runs, given_by}
 
 pub has_cleared : {words : List (List ℕ)} {files : Files} (asks : Asks words files) (stamp : Stamp) (before : Option (List ℕ)) (s : Status) (after : Option (List ℕ)) → Runs asks stamp before s after → HasCleared asks stamp before s after
 has_cleared asks stamp before s after runs is database opens over =

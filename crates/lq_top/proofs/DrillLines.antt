@@ -12,10 +12,10 @@ use Rattle.lq_sources.specs.declared.fault.LoadFault.{LoadFault}
 use Rattle.lq_tell.specs.declared.done.Done.{Done}
 use Rattle.lq_tell.specs.declared.status.Status.{Status}
 use Rattle.lq_turns.specs.declared.stamp.Stamp.{Stamp}
-use Rattle.lq_top.specs.Asks.{Files, given_for, given_to, is_drill, loaded, no_changelog}
-use Rattle.lq_top.specs.Drills.{drill_of}
-use Rattle.lq_top.specs.Worked.{WorkedBy}
-use Rattle.lq_top.specs.declared.drilling.Drilling.{Drilling}
+use Rattle.lq_jobs.specs.Asks.{Files, given_for, given_to, is_drill, loaded, no_changelog}
+use Rattle.lq_jobs.specs.Drills.{drill_of}
+use Rattle.lq_jobs.specs.Worked.{WorkedBy}
+use Rattle.lq_jobs.specs.declared.entrants.Drilling.{Drilling}
 
 true_false : true ≡ false → ⊥
 true_false h = Prim.cc

@@ -9,11 +9,11 @@ use Rattle.lq_tell.specs.Texts.{EndsAs, has_output, out_text, text_or_none}
 use Rattle.lq_tell.specs.declared.done.Done.{Done}
 use Rattle.lq_tell.specs.declared.status.Status.{Status}
 use Rattle.lq_tell.specs.declared.status.Status.TheVariants as status
-use Rattle.lq_top.proofs.Written.{IsWritten, failed_ends}
-use Rattle.lq_top.specs.Asks.{Files}
-use Rattle.lq_top.specs.Drilled.{AsksDrill, DoesDrill, DrillEnds, Drills, IsFormless, IsIdle, IsOfDrill, IsSettled, NoneFailed, RunsDrill, Went, has_drilled, told_text}
-use Rattle.lq_top.specs.Kinds.{is_of_drill}
-use Rattle.lq_top.specs.declared.drilling.Drilling.{Drilling}
+use Rattle.lq_jobs.proofs.Written.{IsWritten, failed_ends}
+use Rattle.lq_jobs.specs.Asks.{Files}
+use Rattle.lq_drills.specs.Drilled.{AsksDrill, DoesDrill, DrillEnds, Drills, IsFormless, IsIdle, IsOfDrill, IsSettled, NoneFailed, RunsDrill, Went, has_drilled, told_text}
+use Rattle.lq_jobs.specs.Kinds.{is_of_drill}
+use Rattle.lq_jobs.specs.declared.entrants.Drilling.{Drilling}
 
 false_true : false ≡ true → ⊥
 false_true h = Prim.cc

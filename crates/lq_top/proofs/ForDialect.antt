@@ -15,8 +15,8 @@ use Rattle.lq_kinds.specs.declared.change_set.Changelog.{Changelog}
 use Rattle.lq_portion.proofs.Parts.{all_first}
 use Rattle.lq_portion.specs.Portion.{sets_tag, through}
 use Rattle.lq_sources.specs.Faults.{Source, map_ok, Loaded}
-use Rattle.lq_top.specs.Asks.{Asks, Files, given_for, given_to, loaded, no_changelog}
-use Rattle.lq_top.specs.Drills.{drill_of}
+use Rattle.lq_jobs.specs.Asks.{Asks, Files, given_for, given_to, loaded, no_changelog}
+use Rattle.lq_jobs.specs.Drills.{drill_of}
 
 given_for_it : (law : WhatIsGivenIsForTheDialect) (source : Source) (d : Dialect) (given : List (List ℕ × List ℕ)) (root : List ℕ) (r : Loaded Changelog) → changelog source root d given ≡ r → IfOk r (AreFor d)
 given_for_it law source d given root (Ok g) is = law d source root given g is

@@ -17,15 +17,15 @@ use Rattle.lq_tell.specs.declared.done.Done.{Done}
 use Rattle.lq_tell.specs.declared.status.Status.{Status}
 use Rattle.lq_tell.specs.declared.status.Status.TheVariants as status
 use Rattle.lq_turns.specs.declared.stamp.Stamp.{Stamp}
-use Rattle.lq_top.proofs.DamagedFiles.{fails_so, files_tell, spares_by}
-use Rattle.lq_top.proofs.InPart.{in_vain_goes_on}
-use Rattle.lq_top.proofs.LeftOnFile.{leaves_on, none_since}
+use Rattle.lq_jobs.proofs.DamagedFiles.{fails_so, files_tell, spares_by}
+use Rattle.lq_jobs.proofs.InPart.{in_vain_goes_on}
+use Rattle.lq_jobs.proofs.LeftOnFile.{leaves_on, none_since}
 use Rattle.lq_top.proofs.Loading.{failing, fails_anyway, fails_does, fails_in_vain, false_true, fault_given, files_damage, files_kind, is_loaded, line_kind, no_changelog_fault, no_disk_fault, no_files, not_less, not_loaded as fault_not_loaded, ok_same, some_line}
-use Rattle.lq_top.specs.Asks.{Asks, Files, asked_by, file_status, given_to}
-use Rattle.lq_top.specs.Bytes.{CrashLeaves, OnFile, given_at}
-use Rattle.lq_top.specs.Jobs.{DoesJob, IsLoaded, JobLeaves, is_on_file, misses}
-use Rattle.lq_top.specs.Run.{Crashes, given_by}
-use Rattle.lq_top.specs.Worked.{CrashesJob, UndoneOn, WorkedBy, WorkedOn, WorkedWith}
+use Rattle.lq_jobs.specs.Asks.{Asks, Files, asked_by, file_status, given_to}
+use Rattle.lq_jobs.specs.Bytes.{CrashLeaves, OnFile, given_at}
+use Rattle.lq_jobs.specs.Jobs.{DoesJob, IsLoaded, JobLeaves, is_on_file, misses}
+use Rattle.lq_jobs.specs.Run.{Crashes, given_by}
+use Rattle.lq_jobs.specs.Worked.{CrashesJob, UndoneOn, WorkedBy, WorkedOn, WorkedWith}
 
 files_unfinished : (f : LoadFault) → is_finished (file_status f) ≡ true → ⊥
 files_unfinished load.Read finished = false_true finished

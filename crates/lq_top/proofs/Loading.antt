@@ -17,11 +17,11 @@ use Rattle.lq_tell.specs.declared.done.Done.{Done}
 use Rattle.lq_tell.specs.declared.status.Status.{Status}
 use Rattle.lq_tell.specs.declared.status.Status.TheVariants as status
 use Rattle.lq_turns.specs.declared.stamp.Stamp.{Stamp}
-use Rattle.lq_top.specs.Asks.{Asks, Files, HasFault, asked_by, file_status, given_to}
-use Rattle.lq_top.specs.Bytes.{TellsDamage, given_at}
-use Rattle.lq_top.specs.Jobs.{DoesLine}
-use Rattle.lq_top.specs.Kinds.{IsNotLoaded, IsOfDatabase, IsOfFiles, IsOfLine, IsOfWords, Refuses, is_of_line, is_unwritten}
-use Rattle.lq_top.specs.Worked.{InVain}
+use Rattle.lq_jobs.specs.Asks.{Asks, Files, HasFault, asked_by, file_status, given_to}
+use Rattle.lq_jobs.specs.Bytes.{TellsDamage, given_at}
+use Rattle.lq_jobs.specs.Jobs.{DoesLine}
+use Rattle.lq_jobs.specs.Kinds.{IsNotLoaded, IsOfDatabase, IsOfFiles, IsOfLine, IsOfWords, Refuses, is_of_line, is_unwritten}
+use Rattle.lq_jobs.specs.Worked.{InVain}
 
 pub ok_same : {a b : Changelog} → (let r : Loaded Changelog = Ok a in r) ≡ Ok b → a ≡ b
 ok_same h = Prim.cc

@@ -34,12 +34,12 @@ use Rattle.lq_turns.specs.declared.choice.Choice.{Choice}
 use Rattle.lq_turns.specs.declared.choice.Choice.TheVariants as choice
 use Rattle.lq_turns.specs.declared.stamp.Stamp.{Stamp}
 use Rattle.lq_turns.specs.declared.stop.Stop.{Stop}
-use Rattle.lq_top.proofs.Written.{Does, IsWritten, failed_unfinished, false_true, halted_is, lines_same, none_some, only_run, own_only, quiet_invalid, quiet_unready, refused_for, was_over}
-use Rattle.lq_top.specs.Asks.{Asks, Files, asked_tag}
-use Rattle.lq_top.specs.Bytes.{OnFile}
-use Rattle.lq_top.specs.Jobs.{DoesJob, DoesLine, is_on_file, job_refusal}
-use Rattle.lq_top.specs.Run.{given_by, is_over}
-use Rattle.lq_top.specs.Says.{WarnedBefore, Warns, WarnsAtFull, WarnsAtFullInPart, WarnsInPart, job_warned, job_warnings}
+use Rattle.lq_jobs.proofs.Written.{Does, IsWritten, failed_unfinished, false_true, halted_is, lines_same, none_some, only_run, own_only, quiet_invalid, quiet_unready, refused_for, was_over}
+use Rattle.lq_jobs.specs.Asks.{Asks, Files, asked_tag}
+use Rattle.lq_jobs.specs.Bytes.{OnFile}
+use Rattle.lq_jobs.specs.Jobs.{DoesJob, DoesLine, is_on_file, job_refusal}
+use Rattle.lq_jobs.specs.Run.{given_by, is_over}
+use Rattle.lq_jobs.specs.Says.{WarnedBefore, Warns, WarnsAtFull, WarnsAtFullInPart, WarnsInPart, job_warned, job_warnings}
 
 -- warnings stand before the lines of each status of a command that came to its end
 beside_over : (s : Status) → is_over s ≡ true → stands_alone s ≡ false

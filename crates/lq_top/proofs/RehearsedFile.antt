@@ -23,15 +23,15 @@ use Rattle.lq_turns.proofs.Updates.{update_leaves}
 use Rattle.lq_turns.specs.Session.{left_by}
 use Rattle.lq_turns.specs.declared.stamp.Stamp.{Stamp}
 use Rattle.lq_turns.specs.declared.stop.Stop.{Stop}
-use Rattle.lq_top.proofs.OpensAgain.{was_clean}
+use Rattle.lq_jobs.proofs.OpensAgain.{was_clean}
 use Rattle.lq_top.proofs.Said.{is_taken_by}
-use Rattle.lq_top.proofs.Written.{IsWritten, over_does}
-use Rattle.lq_top.specs.Asks.{Files}
-use Rattle.lq_top.specs.Bytes.{Becomes}
-use Rattle.lq_top.specs.Headline.{HasRehearsed, IsTaken, Rehearses}
-use Rattle.lq_top.specs.Jobs.{DoesLine, is_on_file, job_refusal, job_script}
-use Rattle.lq_top.specs.Run.{EndsBy, Runs, given_by, is_over}
-use Rattle.lq_top.specs.Says.{Said, SaysJob}
+use Rattle.lq_jobs.proofs.Written.{IsWritten, over_does}
+use Rattle.lq_jobs.specs.Asks.{Files}
+use Rattle.lq_jobs.specs.Bytes.{Becomes}
+use Rattle.lq_jobs.specs.Headline.{HasRehearsed, IsTaken, Rehearses}
+use Rattle.lq_jobs.specs.Jobs.{DoesLine, is_on_file, job_refusal, job_script}
+use Rattle.lq_jobs.specs.Run.{EndsBy, Runs, given_by, is_over}
+use Rattle.lq_jobs.specs.Says.{Said, SaysJob}
 
 same_again : (a b c : Database) → SameDatabase a b → SameDatabase b c → SameDatabase a c
 same_again a b c one more = record { users = one.users ∙ more.users; rows = one.rows ∙ more.rows; lock = one.lock ∙ more.lock }

@@ -78,17 +78,17 @@ use Rattle.lq_turns.specs.declared.fault.Fault.{Fault}
 use Rattle.lq_turns.specs.declared.stamp.Stamp.{Stamp}
 use Rattle.lq_turns.specs.declared.stop.Stop.{Stop}
 use Rattle.lq_turns.specs.declared.turn.Turn.{Turn}
-use Rattle.lq_top.proofs.InPart.{command_on_file, counted_read, loaded_command, runs_command, says_command}
-use Rattle.lq_top.proofs.Unchanged.{holds_it}
+use Rattle.lq_jobs.proofs.InPart.{command_on_file, counted_read, loaded_command, runs_command, says_command}
+use Rattle.lq_jobs.proofs.Unchanged.{holds_it}
 use Rattle.lq_top.proofs.Unlocked.{back_as, sync_as}
-use Rattle.lq_top.proofs.Written.{Does, IsWritten, failed_unfinished, false_true, was_over}
-use Rattle.lq_top.specs.Asks.{Asks, Files}
-use Rattle.lq_top.specs.Bytes.{Becomes, IsLeftOn, Opens, most_bytes}
+use Rattle.lq_jobs.proofs.Written.{Does, IsWritten, failed_unfinished, false_true, was_over}
+use Rattle.lq_jobs.specs.Asks.{Asks, Files}
+use Rattle.lq_jobs.specs.Bytes.{Becomes, IsLeftOn, Opens, most_bytes}
 use Rattle.lq_entries.specs.Log.{entries_in}
-use Rattle.lq_top.specs.Headline.{HoldsAtRest, BackHeld, EndsSo, LeavesMarked, RehearsalHeld, RollbackResumes, StandsHeld, UpdateHeld, UpdateResumes, turns_to, without_stop, UpdateMends}
-use Rattle.lq_top.specs.Jobs.{DoesLine, IsLoaded, command_by, is_on_file, job_script}
-use Rattle.lq_top.specs.Run.{EndsBy, IsOutside, Runs, given_by, is_over}
-use Rattle.lq_top.specs.Says.{Said, SaysJob}
+use Rattle.lq_jobs.specs.Headline.{HoldsAtRest, BackHeld, EndsSo, LeavesMarked, RehearsalHeld, RollbackResumes, StandsHeld, UpdateHeld, UpdateResumes, turns_to, without_stop, UpdateMends}
+use Rattle.lq_jobs.specs.Jobs.{DoesLine, IsLoaded, command_by, is_on_file, job_script}
+use Rattle.lq_jobs.specs.Run.{EndsBy, IsOutside, Runs, given_by, is_over}
+use Rattle.lq_jobs.specs.Says.{Said, SaysJob}
 
 -- what the law on updates asks of a view of a changelog
 

@@ -48,15 +48,15 @@ use Rattle.lq_turns.specs.declared.stamp.Stamp.{Stamp}
 use Rattle.lq_turns.specs.declared.stop.Stop.{Stop}
 use Rattle.lq_turns.specs.declared.turn.Turn.{Turn}
 use Rattle.laws_generate.specs.Again.{TextComesAgain}
-use Rattle.lq_top.proofs.RefusedKinds.{answers_ends}
-use Rattle.lq_top.proofs.ShortTag.{IsSigned, signed_line}
-use Rattle.lq_top.proofs.Written.{Does, IsWritten, failed_unfinished, false_true, halted_is, none_some, only_run, own_only, quiet_generate, quiet_held, quiet_invalid, quiet_not, quiet_or, quiet_unready, quiet_untagged, quiet_way, refused_for, some_same, was_over}
-use Rattle.lq_top.specs.Asks.{Asks, Files}
-use Rattle.lq_top.specs.Bytes.{OnFile}
-use Rattle.lq_top.specs.Headline.{GoesBack, IsTaken, is_taken}
-use Rattle.lq_top.specs.Jobs.{DoesJob, DoesLine, MakesAgain, is_on_file, job_refusal}
-use Rattle.lq_top.specs.Run.{EndsBy, Runs, given_by, is_end}
-use Rattle.lq_top.specs.Says.{ComesAgain, Said, SaidInPart, Says, SaysJob, SaysRehearsal, SaysRollback, SaysUpdate, unless_refused}
+use Rattle.lq_jobs.proofs.RefusedKinds.{answers_ends}
+use Rattle.lq_drills.proofs.ShortTag.{IsSigned, signed_line}
+use Rattle.lq_jobs.proofs.Written.{Does, IsWritten, failed_unfinished, false_true, halted_is, none_some, only_run, own_only, quiet_generate, quiet_held, quiet_invalid, quiet_not, quiet_or, quiet_unready, quiet_untagged, quiet_way, refused_for, some_same, was_over}
+use Rattle.lq_jobs.specs.Asks.{Asks, Files}
+use Rattle.lq_jobs.specs.Bytes.{OnFile}
+use Rattle.lq_jobs.specs.Headline.{GoesBack, IsTaken, is_taken}
+use Rattle.lq_jobs.specs.Jobs.{DoesJob, DoesLine, MakesAgain, is_on_file, job_refusal}
+use Rattle.lq_jobs.specs.Run.{EndsBy, Runs, given_by, is_end}
+use Rattle.lq_jobs.specs.Says.{ComesAgain, Said, SaidInPart, Says, SaysJob, SaysRehearsal, SaysRollback, SaysUpdate, unless_refused}
 
 some_none : {s : Status} → (let o : Option Status = Some s in o) ≡ None → ⊥
 some_none h = Prim.cc

@@ -5,11 +5,11 @@ use Rattle.lq_base.specs.declared.dialect.Dialect.{Dialect}
 use Rattle.lq_model.specs.Catalogue.{Catalogue, no_objects}
 use Rattle.lq_store.specs.Calls.{stated}
 use Rattle.lq_store.specs.Journal.{Entry, run_entries, run_entry}
-use Rattle.lq_top.proofs.OpensAgain.{holds_opens, was_clean}
-use Rattle.lq_top.proofs.Unchanged.{holds_it}
-use Rattle.lq_top.specs.Asks.{Asks, Files}
-use Rattle.lq_top.specs.Bytes.{Holds, Opens}
-use Rattle.lq_top.specs.Worked.{HasSameEntries, HasStated, IsSnapped, SnapshotOpens}
+use Rattle.lq_jobs.proofs.OpensAgain.{holds_opens, was_clean}
+use Rattle.lq_jobs.proofs.Unchanged.{holds_it}
+use Rattle.lq_jobs.specs.Asks.{Asks, Files}
+use Rattle.lq_jobs.specs.Bytes.{Holds, Opens}
+use Rattle.lq_jobs.specs.Worked.{HasSameEntries, HasStated, IsSnapped, SnapshotOpens}
 use Rattle.lq_track.specs.Database.{Database}
 
 -- entries lead on from where those before them lead

@@ -17,14 +17,14 @@ use Rattle.lq_tell.specs.declared.done.Done.{Done}
 use Rattle.lq_tell.specs.declared.status.Status.{Status}
 use Rattle.lq_tell.specs.declared.status.Status.TheVariants as status
 use Rattle.lq_track.specs.Database.{Database}
-use Rattle.lq_top.proofs.LeftOnFile.{leaves_on, none_since}
+use Rattle.lq_jobs.proofs.LeftOnFile.{leaves_on, none_since}
 use Rattle.lq_top.proofs.SnapshotOpens.{snapped_opens}
-use Rattle.lq_top.proofs.Written.{Failed, IsWritten, ends_by, err_not_full, failed_outside, failed_unfinished, false_true, memory_full, outside_ends, outside_not_full, quiet_held, quiet_not, refused_for, was_over, write_full}
-use Rattle.lq_top.specs.Asks.{Asks, Files}
-use Rattle.lq_top.specs.Bytes.{CrashLeaves, Opens, most_bytes}
-use Rattle.lq_top.specs.Headline.{IsTaken, is_taken}
-use Rattle.lq_top.specs.Run.{EndsBy, IsOutside, is_over}
-use Rattle.lq_top.specs.Worked.{CrashesSnapshot, DoesSnapshot, EndsSnapshot, HasNoRoom, HasSameEntries, HasSnapped, IsSnapped, IsSnapshotSafe, RunsSnapshot, RunsSnapshots, SaysSnapshot, TellsSnapshot, SnappedBy, SnappedOn}
+use Rattle.lq_jobs.proofs.Written.{Failed, IsWritten, ends_by, err_not_full, failed_outside, failed_unfinished, false_true, memory_full, outside_ends, outside_not_full, quiet_held, quiet_not, refused_for, was_over, write_full}
+use Rattle.lq_jobs.specs.Asks.{Asks, Files}
+use Rattle.lq_jobs.specs.Bytes.{CrashLeaves, Opens, most_bytes}
+use Rattle.lq_jobs.specs.Headline.{IsTaken, is_taken}
+use Rattle.lq_jobs.specs.Run.{EndsBy, IsOutside, is_over}
+use Rattle.lq_jobs.specs.Worked.{CrashesSnapshot, DoesSnapshot, EndsSnapshot, HasNoRoom, HasSameEntries, HasSnapped, IsSnapped, IsSnapshotSafe, RunsSnapshot, RunsSnapshots, SaysSnapshot, TellsSnapshot, SnappedBy, SnappedOn}
 
 -- a drill is another job
 pub drill_no_snapshot : {runs : List ℕ} → Drill runs ≡ Snapshot → ⊥

@@ -13,11 +13,11 @@ use Rattle.lq_tell.specs.declared.done.Done.{Done}
 use Rattle.lq_tell.specs.declared.status.Status.{Status}
 use Rattle.lq_tell.specs.declared.status.Status.TheVariants as status
 use Rattle.lq_turns.specs.declared.stamp.Stamp.{Stamp}
-use Rattle.lq_top.proofs.Written.{IsWritten, failed_ends}
-use Rattle.lq_top.specs.Asks.{file_status}
-use Rattle.lq_top.specs.Jobs.{is_apart}
-use Rattle.lq_top.specs.Kinds.{IsOfFiles, is_unwritten}
-use Rattle.lq_top.specs.Soaked.{FailsSoak, SaysSoak, TellsSoak, TellsSoakOf, is_done}
+use Rattle.lq_jobs.proofs.Written.{IsWritten, failed_ends}
+use Rattle.lq_jobs.specs.Asks.{file_status}
+use Rattle.lq_jobs.specs.Jobs.{is_apart}
+use Rattle.lq_jobs.specs.Kinds.{IsOfFiles, is_unwritten}
+use Rattle.lq_soak.specs.Soaked.{FailsSoak, SaysSoak, TellsSoak, TellsSoakOf, is_done}
 
 true_false : true ≡ false → ⊥
 true_false h = Prim.cc

@@ -11,10 +11,10 @@ use Rattle.lq_mending.specs.declared.outcome.RepairFault.{RepairFault}
 use Rattle.lq_tell.specs.declared.status.Status.{Status}
 use Rattle.lq_tell.specs.declared.status.Status.TheVariants as status
 use Rattle.lq_top.proofs.Said.{is_taken_by}
-use Rattle.lq_top.specs.Asks.{Asks, Files}
-use Rattle.lq_top.specs.Run.{EndsBy}
-use Rattle.lq_top.specs.Headline.{TakesPartBack, point_of}
-use Rattle.lq_top.specs.Undone.{RunsUndone, SaysPart, SaysUndone, last_on, undo_calls}
+use Rattle.lq_jobs.specs.Asks.{Asks, Files}
+use Rattle.lq_jobs.specs.Run.{EndsBy}
+use Rattle.lq_jobs.specs.Headline.{TakesPartBack, point_of}
+use Rattle.lq_jobs.specs.Undone.{RunsUndone, SaysPart, SaysUndone, last_on, undo_calls}
 use Rattle.lq_track.specs.Database.{Database}
 use Rattle.lq_turns.specs.Session.{left_by}
 use Rattle.lq_turns.specs.declared.call.Call.{Call}

@@ -13,10 +13,10 @@ use Rattle.lq_model.proofs.Lists.{all-append, and_left, and_right, and_true}
 use Rattle.lq_model.specs.declared.statement.Statement.{Statement}
 use Rattle.lq_reverse.specs.Back.{back}
 use Rattle.lq_stand.specs.Stays.{call_is_first, calls_are_first, deed_is_first, deeds_are_first}
-use Rattle.lq_top.proofs.OpensAgain.{opens_behind, opens_stopped}
-use Rattle.lq_top.specs.Asks.{Asks, Files}
-use Rattle.lq_top.specs.Bytes.{Becomes, IsLeftOn, Opens}
-use Rattle.lq_top.specs.Undone.{UndoneOpens, undo_calls}
+use Rattle.lq_jobs.proofs.OpensAgain.{opens_behind, opens_stopped}
+use Rattle.lq_jobs.specs.Asks.{Asks, Files}
+use Rattle.lq_jobs.specs.Bytes.{Becomes, IsLeftOn, Opens}
+use Rattle.lq_jobs.specs.Undone.{UndoneOpens, undo_calls}
 use Rattle.lq_track.specs.Database.{Database}
 use Rattle.lq_turns.specs.Deed.{Contents, contents_of, contents_after, done}
 use Rattle.lq_turns.specs.Script.{closing}

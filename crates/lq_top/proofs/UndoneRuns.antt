@@ -17,19 +17,19 @@ use Rattle.lq_tell.specs.declared.status.Status.TheVariants as status
 use Rattle.lq_track.specs.Database.{Database}
 use Rattle.lq_turns.specs.declared.stop.Refusal.{Refusal}
 use Rattle.lq_undoing.specs.Undid.{TellsPart, TellsUndone, undo_refusal}
-use Rattle.lq_top.proofs.LeftOnFile.{crashes_on, since_none}
-use Rattle.lq_top.proofs.OnFiles.{by_end}
-use Rattle.lq_top.proofs.OpensAgain.{opens_same}
+use Rattle.lq_jobs.proofs.LeftOnFile.{crashes_on, since_none}
+use Rattle.lq_jobs.proofs.OnFiles.{by_end}
+use Rattle.lq_jobs.proofs.OpensAgain.{opens_same}
 use Rattle.lq_top.proofs.UndoneOpens.{undone_cut, undone_opens}
 use Rattle.lq_top.proofs.Said.{answers_ran, ended_so, nothing_more, ran_output}
-use Rattle.lq_top.proofs.Unchanged.{becomes_left, left_same}
-use Rattle.lq_top.proofs.UndoneOn.{undo_not_full, undo_unfinished}
-use Rattle.lq_top.proofs.Written.{Failed, IsWritten, ends_by, err_not_full, failed_outside, failed_unfinished, memory_full, outside_ends, outside_not_full, quiet_not, refused_for, was_over, write_full}
-use Rattle.lq_top.specs.Asks.{Asks, Files}
-use Rattle.lq_top.specs.Bytes.{Becomes, CrashesOn, HadRoomOn, IsLeftOn, OnFile, Opens, RestsFullOn, SaysFullOn}
-use Rattle.lq_top.specs.Run.{is_over}
-use Rattle.lq_top.specs.Undone.{CrashesUndone, DoesUndo, IsUndoneSafe, RunsUndo, RunsUndone, SaysPart, SaysUndone, part_on, undo_calls}
-use Rattle.lq_top.specs.Worked.{UndoneBy, UndoneOn}
+use Rattle.lq_jobs.proofs.Unchanged.{becomes_left, left_same}
+use Rattle.lq_jobs.proofs.UndoneOn.{undo_not_full, undo_unfinished}
+use Rattle.lq_jobs.proofs.Written.{Failed, IsWritten, ends_by, err_not_full, failed_outside, failed_unfinished, memory_full, outside_ends, outside_not_full, quiet_not, refused_for, was_over, write_full}
+use Rattle.lq_jobs.specs.Asks.{Asks, Files}
+use Rattle.lq_jobs.specs.Bytes.{Becomes, CrashesOn, HadRoomOn, IsLeftOn, OnFile, Opens, RestsFullOn, SaysFullOn}
+use Rattle.lq_jobs.specs.Run.{is_over}
+use Rattle.lq_jobs.specs.Undone.{CrashesUndone, DoesUndo, IsUndoneSafe, RunsUndo, RunsUndone, SaysPart, SaysUndone, part_on, undo_calls}
+use Rattle.lq_jobs.specs.Worked.{UndoneBy, UndoneOn}
 
 -- a drill is another job
 pub drill_not_undo : {runs : List ℕ} → Drill runs ≡ UndoUnrecorded → ⊥

@@ -14,32 +14,30 @@ ghost use Rattle.lq_sources.specs.declared.fault.LoadFault.{LoadFault as Fault};
 ghost use Rattle.lq_tell.specs.Texts.{status_done};
 ghost use Rattle.lq_tell.specs.declared.status.Status.TheVariants as status;
 ghost use Rattle.lq_cli.specs.Job.{goal_of};
-ghost use Rattle.lq_top.specs.Asks.{Asks, AsksInVain, HasFault, HasNoForm, HasNoPart, IsFaultOf, IsUsage, asked_by, asked_tag, asks_drill, given_to, is_drill, loaded};
-ghost use Rattle.lq_top.specs.Bytes.{IsDamagedAt, TellsDamage, given_at, job_of};
-ghost use Rattle.lq_top.specs.Kinds.{ReadAtMostOnce, ReadUpTo, IsNotLoaded, IsOfFiles, IsOfWords};
-ghost use Rattle.lq_top.specs.Drilled.{AsksDrill, DoesDrill, DrilledBy, IsFormless, IsSettled};
-ghost use Rattle.lq_top.specs.Jobs.{DoesLine, is_apart, is_on_store, is_own, job_tag};
-ghost use Rattle.lq_top.specs.Run.{Crashes};
-ghost use Rattle.lq_top.specs.Soaked.{TellsSoakOf};
-ghost use Rattle.lq_top.specs.Worked.{InVain, SnappedBy, Spares, UndoneBy, WorkedBy, WorkedOn, WorkedWith, has_missed};
+ghost use Rattle.lq_jobs.specs.Asks.{Asks, AsksInVain, HasFault, HasNoForm, HasNoPart, IsFaultOf, IsUsage, asked_by, asked_tag, asks_drill, given_to, is_drill, loaded};
+ghost use Rattle.lq_jobs.specs.Bytes.{IsDamagedAt, TellsDamage, given_at, job_of};
+ghost use Rattle.lq_jobs.specs.Kinds.{ReadAtMostOnce, ReadUpTo, IsNotLoaded, IsOfFiles, IsOfWords};
+ghost use Rattle.lq_drills.specs.Drilled.{AsksDrill, DoesDrill, DrilledBy, IsFormless, IsSettled};
+ghost use Rattle.lq_jobs.specs.Jobs.{DoesLine, is_apart, is_on_store, is_own, job_tag};
+ghost use Rattle.lq_jobs.specs.Run.{Crashes};
+ghost use Rattle.lq_soak.specs.Soaked.{TellsSoakOf};
+ghost use Rattle.lq_jobs.specs.Worked.{InVain, SnappedBy, Spares, UndoneBy, WorkedBy, WorkedOn, WorkedWith, has_missed};
 
-use crate::changelogs::{changelog_of, file_status, part_for};
-use crate::copying::{Printing, on_copy};
-use crate::drilling::drill;
-use crate::generating::generate_on;
-use crate::opening::{Worked, on_disk};
-use crate::snapshotting::snapshot_on;
-use crate::soak::{Seed, soak};
-use crate::undoing::undo_on;
 use lq_base::{Dialect, Text};
 use lq_cli::{Job, Line, WordsFault, read_words};
 use lq_commands::Asked;
+use lq_drills::drill;
 use lq_expr::Options;
+use lq_jobs::{
+    Printing, Worked, changelog_of, file_status, generate_on, on_copy, on_disk, part_for,
+    snapshot_on, undo_on,
+};
 use lq_kinds::Changelog;
 use lq_model::SqlText;
 use lq_my::My;
 use lq_outside::{Clock, Disk, Files};
 use lq_pg::Pg;
+use lq_soak::{Seed, soak};
 use lq_tell::{Done, Status};
 use std::alloc::Global;
 

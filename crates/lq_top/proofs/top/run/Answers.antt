@@ -6,11 +6,11 @@ use Rattle.lq_commands.specs.Stamp.{stamp_of}
 use Rattle.lq_tell.specs.declared.status.Status.TheVariants as status
 use Rattle.lq_top.proofs.Alone.{takes_steps}
 use Rattle.lq_top.proofs.ClearedFile.{has_cleared}
-use Rattle.lq_top.proofs.DamagedFiles.{spares_damage}
+use Rattle.lq_jobs.proofs.DamagedFiles.{spares_damage}
 use Rattle.lq_top.proofs.DrillRuns.{ends_formless, runs_drill, settled_as}
 use Rattle.lq_top.proofs.ForDialect.{asked_for}
 use Rattle.lq_top.proofs.Logged.{has_warned, has_warned_at_full, has_warned_at_full_in_part, has_warned_in_part}
-use Rattle.lq_top.proofs.OpensAgain.{crash_opens}
+use Rattle.lq_jobs.proofs.OpensAgain.{crash_opens}
 use Rattle.lq_top.proofs.RehearsedFile.{has_rehearsed, is_rehearsed}
 use Rattle.lq_top.proofs.Resumed.{crash_marked, has_gone_on_back, has_mended, has_resumed, leaves_marked}
 use Rattle.lq_top.proofs.Said.{comes_again, has_said, said_in_part, succeeds}
@@ -20,10 +20,10 @@ use Rattle.lq_top.proofs.SnapshotOpens.{crash_opens as snapshot_crash_opens}
 use Rattle.lq_top.proofs.SnapshotRuns.{crash_snapped, has_snapped, snapshot_safe}
 use Rattle.lq_top.proofs.UndoneOpens.{undone_crash_opens}
 use Rattle.lq_top.proofs.UndoneRuns.{crash_undone, has_undone, undone_safe}
-use Rattle.lq_top.proofs.Written.{IsWritten, cause, ends_in_vain, ends_unread, gone_back, had_missed, has_run, has_synced, has_updated, is_logged, is_logged_part, no_files_left, no_words, tag_so, tells_damage, was_over, written_fault}
+use Rattle.lq_jobs.proofs.Written.{IsWritten, cause, ends_in_vain, ends_unread, gone_back, had_missed, has_run, has_synced, has_updated, is_logged, is_logged_part, no_files_left, no_words, tag_so, tells_damage, was_over, written_fault}
 use Rattle.lq_top.proofs.top.run.Goals as goal
-use Rattle.lq_top.specs.Asks.{asked_tag}
-use Rattle.lq_top.specs.Run.{is_over}
+use Rattle.lq_jobs.specs.Asks.{asked_tag}
+use Rattle.lq_jobs.specs.Run.{is_over}
 
 pub returns-clause-usage : goal.returns-clause-usage
 returns-clause-usage g c =

@@ -1,14 +1,14 @@
 use Rattle.std.proofs.Common.{ap, inl, inr, refl, subst, sym, ◌∙◌}
 use Rattle.lq_cli.specs.declared.line.Job.TheVariants.{Generate}
 use Rattle.lq_commands.specs.Stamp.{stamp_of}
-use Rattle.lq_top.proofs.InPart.{own_beside, store_own}
+use Rattle.lq_jobs.proofs.InPart.{own_beside, store_own}
 use Rattle.lq_top.proofs.Loading.{soak_damage, soak_disk, soak_kind}
-use Rattle.lq_top.proofs.OnDatabases.{aside_worked}
+use Rattle.lq_jobs.proofs.OnDatabases.{aside_worked}
 use Rattle.lq_top.proofs.SoakSays.{no_soak, soak_tells}
 use Rattle.lq_top.proofs.work.on_job.Goals as goal
-use Rattle.lq_top.specs.Bytes.{given_at}
-use Rattle.lq_top.specs.Jobs.{goes_on, is_apart, is_on_file, is_own}
-use Rattle.lq_top.specs.Worked.{WorkedOn}
+use Rattle.lq_jobs.specs.Bytes.{given_at}
+use Rattle.lq_jobs.specs.Jobs.{goes_on, is_apart, is_on_file, is_own}
+use Rattle.lq_jobs.specs.Worked.{WorkedOn}
 
 pub returns-in-UpdateSql-clause-worked : goal.returns-in-UpdateSql-clause-worked
 returns-in-UpdateSql-clause-worked g c =

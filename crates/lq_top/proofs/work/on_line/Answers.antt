@@ -3,7 +3,7 @@ use Rattle.std.specs.Prelude.{List, ℕ}
 use Rattle.lq_commands.specs.Stamp.{stamp_of}
 use Rattle.lq_top.proofs.DrillLines.{meant_same, other_given}
 use Rattle.lq_top.proofs.work.on_line.Goals as goal
-use Rattle.lq_top.specs.Asks.{given_to, loaded}
+use Rattle.lq_jobs.specs.Asks.{given_to, loaded}
 
 pub returns-in_default : goal.returns-in_default
 returns-in_default g c =

@@ -2,7 +2,7 @@ use Rattle.std.proofs.Common.{sym}
 use Rattle.lq_commands.specs.Stamp.{stamp_of}
 use Rattle.lq_tell.specs.declared.status.Status.TheVariants as status
 use Rattle.lq_top.proofs.Handing.{missed_worked, part_worked}
-use Rattle.lq_top.proofs.InPart.{in_vain_beside}
+use Rattle.lq_jobs.proofs.InPart.{in_vain_beside}
 use Rattle.lq_top.proofs.Loading.{failing}
 use Rattle.lq_top.proofs.SoakSays.{no_soak}
 use Rattle.lq_top.proofs.work.on_part.Goals as goal

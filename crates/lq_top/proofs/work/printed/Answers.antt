@@ -1,13 +1,13 @@
 use Rattle.lq_commands.specs.Stamp.{stamp_of}
-use Rattle.lq_top.proofs.DamagedFiles.{spares_by}
-use Rattle.lq_top.proofs.InPart.{no_goal}
-use Rattle.lq_top.proofs.LeftOnFile.{read_since}
-use Rattle.lq_top.proofs.SnappedOn.{prints_no_snapshot}
-use Rattle.lq_top.proofs.Unchanged.{printed_does, prints_no_command, prints_no_goal, prints_on_file}
-use Rattle.lq_top.proofs.UndoneOn.{prints_no_undo}
+use Rattle.lq_jobs.proofs.DamagedFiles.{spares_by}
+use Rattle.lq_jobs.proofs.InPart.{no_goal}
+use Rattle.lq_jobs.proofs.LeftOnFile.{read_since}
+use Rattle.lq_jobs.proofs.SnappedOn.{prints_no_snapshot}
+use Rattle.lq_jobs.proofs.Unchanged.{printed_does, prints_no_command, prints_no_goal, prints_on_file}
+use Rattle.lq_jobs.proofs.UndoneOn.{prints_no_undo}
 use Rattle.lq_top.proofs.work.printed.Goals as goal
-use Rattle.lq_top.specs.Bytes.{given_at, job_of}
-use Rattle.lq_top.specs.Jobs.{JobLeaves}
+use Rattle.lq_jobs.specs.Bytes.{given_at, job_of}
+use Rattle.lq_jobs.specs.Jobs.{JobLeaves}
 
 pub returns-clause-worked : goal.returns-clause-worked
 returns-clause-worked g c =

@@ -8,8 +8,8 @@ use Rattle.lq_top.proofs.Handing.{loaded_worked, unloaded_worked}
 use Rattle.lq_top.proofs.Loading.{failing, is_read_fault, no_read_fault}
 use Rattle.lq_top.proofs.SoakSays.{failed_tells}
 use Rattle.lq_top.proofs.work.with_sql.Goals as goal
-use Rattle.lq_top.specs.Asks.{loaded}
-use Rattle.lq_top.specs.Worked.{WorkedBy}
+use Rattle.lq_jobs.specs.Asks.{loaded}
+use Rattle.lq_jobs.specs.Worked.{WorkedBy}
 
 pub returns-in-Ok-clause-read : goal.returns-in-Ok-clause-read
 returns-in-Ok-clause-read g c = λ is. absurd (no_read_fault c.on_part.result.done c.on_part.ensures.worked.kind is)

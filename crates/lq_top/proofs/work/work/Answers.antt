@@ -12,26 +12,26 @@ use Rattle.lq_tell.specs.Texts.{status_done}
 use Rattle.lq_tell.specs.declared.done.Done.{Done}
 use Rattle.lq_tell.specs.declared.status.Status.{Status}
 use Rattle.lq_tell.specs.declared.status.Status.TheVariants as status
-use Rattle.lq_top.proofs.DamagedFiles.{memory_spares, spares_as}
-use Rattle.lq_top.proofs.DrillIdle.{unused_drill}
+use Rattle.lq_jobs.proofs.DamagedFiles.{memory_spares, spares_as}
+use Rattle.lq_drills.proofs.DrillIdle.{unused_drill}
 use Rattle.lq_top.proofs.DrillLines.{by_job, drill_given, fault_given, fault_there}
 use Rattle.lq_top.proofs.Handing.{line_crashes, unused_crashes}
-use Rattle.lq_top.proofs.InPart.{in_vain_goes_on, no_goal}
+use Rattle.lq_jobs.proofs.InPart.{in_vain_goes_on, no_goal}
 use Rattle.lq_top.proofs.Loading.{false_true, is_failed, is_usage, line_does, line_fails, memory_no_changelog, no_line, no_usage, not_less, of_line_is, other, refused_kind, refused_whole, words_kind}
-use Rattle.lq_top.proofs.Readings.{at_most_once, unread}
-use Rattle.lq_top.proofs.ShortTag.{short_tag}
+use Rattle.lq_drills.proofs.Readings.{at_most_once, unread}
+use Rattle.lq_drills.proofs.ShortTag.{short_tag}
 use Rattle.lq_top.proofs.SoakSays.{refused_tells}
 use Rattle.lq_top.proofs.SnapshotRuns.{drill_no_snapshot}
 use Rattle.lq_top.proofs.UndoneRuns.{drill_not_undo}
 use Rattle.lq_top.proofs.work.work.Goals as goal
-use Rattle.lq_top.specs.Asks.{HasNoPart, asked_tag, asks_drill, given_to}
-use Rattle.lq_top.specs.Bytes.{IsDamagedAt, TellsDamage}
-use Rattle.lq_top.specs.Drilled.{DoesDrill, IsFormless, IsSettled}
-use Rattle.lq_top.specs.Drills.{drill_of}
-use Rattle.lq_top.specs.Jobs.{goes_on, is_apart, is_on_file, is_own}
-use Rattle.lq_top.specs.Worked.{InVain, SnappedBy, Spares, UndoneBy, has_missed}
-use Rattle.lq_top.specs.Soaked.{TellsSoakOf}
-use Rattle.lq_top.specs.declared.drilling.Drilling.{Drilling}
+use Rattle.lq_jobs.specs.Asks.{HasNoPart, asked_tag, asks_drill, given_to}
+use Rattle.lq_jobs.specs.Bytes.{IsDamagedAt, TellsDamage}
+use Rattle.lq_drills.specs.Drilled.{DoesDrill, IsFormless, IsSettled}
+use Rattle.lq_jobs.specs.Drills.{drill_of}
+use Rattle.lq_jobs.specs.Jobs.{goes_on, is_apart, is_on_file, is_own}
+use Rattle.lq_jobs.specs.Worked.{InVain, SnappedBy, Spares, UndoneBy, has_missed}
+use Rattle.lq_soak.specs.Soaked.{TellsSoakOf}
+use Rattle.lq_jobs.specs.declared.entrants.Drilling.{Drilling}
 
 pub on_line-requires : goal.on_line-requires
 on_line-requires g c = record { tag = short_tag (map (λ word. string_bytes word) c.args.words.now) c.in-Ok.line c.in-Ok.ensures.line }

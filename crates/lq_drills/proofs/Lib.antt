@@ -1,0 +1,16 @@
+pub mod DrillAnswers
+pub mod DrillCame
+pub mod DrillCrashes
+pub mod DrillEnds
+pub mod DrillFiles
+pub mod DrillFits
+pub mod DrillIdle
+pub mod DrillOpens
+pub mod DrillPlayed
+pub mod DrillPlayers
+pub mod DrillRead
+pub mod DrillScripts
+pub mod Readings
+pub mod ScriptsFit
+pub mod ShortLines
+pub mod ShortTag

@@ -1,0 +1,10 @@
+pub mod Drills
+pub mod Asks
+pub mod Bytes
+pub mod Jobs
+pub mod Run
+pub mod Headline
+pub mod Worked
+pub mod Undone
+pub mod Kinds
+pub mod Says

@@ -1,5 +1,0 @@
-use Rattle.lq_top.proofs.SoakTables.{rows_counted}
-use Rattle.lq_top.proofs.soak.counted.Goals as goal
-
-pub returns-clause-rows : goal.returns-clause-rows
-returns-clause-rows g c = rows_counted _ c.in-Ok.rows c.len.result c.len.ensures c.in-Ok.ensures

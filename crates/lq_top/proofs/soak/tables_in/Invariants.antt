@@ -1,6 +1,0 @@
-use Rattle.std.proofs.Common.{◌≡◌, ◌≤◌}
-use Rattle.lq_top.specs.Soaked.{tables_there}
-use Rattle.lq_top.proofs.soak.tables_in.Given as goal
-
-abbrev pub invariant-loop-place : goal.invariant-loop-place
-invariant-loop-place g l = (l.count ≤ l.place) × (l.count ≡ tables_there (g.K.Look.catalogue l.look) l.place)
