@@ -11,7 +11,7 @@ ghost use Rattle.lq_keyops.specs.Targets.{lacks_parent_in};
 
 use crate::ending::{nothing_there, reshape};
 use crate::equal::{lacks_one, values_of};
-use crate::names::{are_reserved, foreign_taken, no_tests};
+use crate::names::{are_reserved, foreign_taken, learn_foreign, no_tests};
 use crate::targets::is_target;
 use lq_arm::{Tests, repeats};
 use lq_base::{Dialect, Duplicate, Kind, Name, NoMemory, Value};
@@ -143,7 +143,24 @@ fn with_foreign(alloc: Global, held: &Held, foreign: &ForeignKey) -> Result<Shap
 }
 
 /// ALTER TABLE .. ADD FOREIGN KEY on a sound catalogue, on someone's behalf.
+#[tactic(auto, using(lq_rows::proofs::Continued::stays))]
 pub fn add_foreign_key(
+    parts: &mut Parts,
+    alloc: Global,
+    by: By,
+    dialect: Dialect,
+    table: &Name,
+    foreign: &ForeignKey,
+) -> Result<u64, RunFault>
+    requires { IsSound dialect parts.old.now }
+    ensures { Answers (decide (spec.add_foreign_key by dialect table.now foreign.now parts.old.now))
+        parts.old parts.new result }
+{
+    learn_foreign(parts, dialect, &foreign.name)?;
+    add_foreign_key_tested(parts, alloc, by, dialect, table, foreign)
+}
+
+fn add_foreign_key_tested(
     parts: &mut Parts,
     alloc: Global,
     by: By,

@@ -6,7 +6,7 @@ ghost use Rattle.lq_model.specs.Catalogue.{is_in};
 ghost use Rattle.lq_keyops.specs.Targets.{no_tests};
 
 use lq_arm::{Tests, any_is_foreign, any_is_inner, is_constraint, is_unique_or_index};
-use lq_base::{Dialect, Name};
+use lq_base::{Dialect, Name, NoMemory};
 use lq_model::By;
 use lq_parts::Parts;
 use lq_query::is_reserved;
@@ -113,6 +113,19 @@ fn is_any_foreign(parts: &Parts, name: &Name) -> bool
     match parts.knows_foreign_name(name) {
         Some(found) => found,
         None => stands_foreign(parts, name),
+    }
+}
+
+/// The names of foreign keys get known once, for all statements, where they stand in one space.
+pub fn learn_foreign(parts: &mut Parts, dialect: Dialect, name: &Name) -> Result<(), NoMemory>
+    ensures { parts.new ≡ parts.old }
+{
+    match dialect {
+        Dialect::Postgresql => Ok(()),
+        Dialect::Mysql => {
+            parts.has_foreign_name(name)?;
+            Ok(())
+        }
     }
 }
 
