@@ -3,3 +3,4 @@ pub mod InHand
 pub mod Counted
 pub mod Sighted
 pub mod Expected
+mod TurnLaid

@@ -7,8 +7,8 @@ ghost use Rattle.lq_turns.specs.Deed.{Contents};
 ghost use Rattle.lq_turns.specs.Turn.{ending, turn_calls};
 ghost use Rattle.lq_turns.specs.declared.deed.Deed.TheVariants.{Rows};
 
+use crate::turn::turn_calls;
 use lq_base::{Dialect, Items, NoMemory, Text};
-use lq_laying::turn_calls;
 use lq_turns::{Call, Turn};
 use std::alloc::Global;
 

@@ -4,6 +4,7 @@
 mod hand;
 mod progress;
 mod source;
+mod turn;
 
 pub use hand::{Hand, Phase};
 pub use progress::{Coming, Progress, next_coming};

@@ -1,7 +1,8 @@
-//! The calls of a turn, laid down the last first.
+//! The calls of a turn up to its row's, laid down the last first.
 #![tactic(auto)]
 
 mod marking;
 mod turn;
 
-pub use turn::turn_calls;
+pub use marking::Marking;
+pub use turn::{push, push_parts};

@@ -4,7 +4,7 @@ use Rattle.lq_turns.specs.declared.call.Call.TheVariants.{Execute}
 use Rattle.lq_turns.specs.declared.deed.Deed.TheVariants.{Locks}
 use Rattle.lq_turns.specs.declared.deed.OnLock.TheVariants.{Marked}
 use Rattle.lq_laying.specs.Laying.{Lays, if_wanted}
-use Rattle.lq_laying.proofs.turn.push_unmark.Goals as goal
+use Rattle.lq_hand.proofs.turn.push_unmark.Goals as goal
 
 pub returns-in_err-name : goal.returns-in_err-name
 returns-in_err-name c = search rules

@@ -1,6 +1,6 @@
 use Rattle.std.proofs.lemmas.Result.{on_ok_weaker}
-use Rattle.lq_laying.proofs.Laying.{laid_to_row}
-use Rattle.lq_laying.proofs.turn.push_turn.Goals as goal
+use Rattle.lq_hand.proofs.TurnLaid.{laid_to_row}
+use Rattle.lq_hand.proofs.turn.push_turn.Goals as goal
 
 pub returns : goal.returns
 returns c = on_ok_weaker c.push_parts.result

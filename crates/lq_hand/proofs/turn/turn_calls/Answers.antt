@@ -1,6 +1,6 @@
 use Rattle.std.proofs.Common.{rules}
-use Rattle.lq_laying.proofs.Laying.{turn_laid}
-use Rattle.lq_laying.proofs.turn.turn_calls.Goals as goal
+use Rattle.lq_hand.proofs.TurnLaid.{turn_laid}
+use Rattle.lq_hand.proofs.turn.turn_calls.Goals as goal
 
 pub returns-in_err-push_end : goal.returns-in_err-push_end
 returns-in_err-push_end c = search rules

@@ -1,7 +1,7 @@
 use Rattle.std.proofs.Common.{rules}
 use Rattle.std.proofs.lemmas.Result.{on_ok_weaker}
-use Rattle.lq_laying.proofs.Laying.{end_laid}
-use Rattle.lq_laying.proofs.turn.push_end.Goals as goal
+use Rattle.lq_hand.proofs.TurnLaid.{end_laid}
+use Rattle.lq_hand.proofs.turn.push_end.Goals as goal
 
 pub returns-in_err-push : goal.returns-in_err-push
 returns-in_err-push c = search rules
