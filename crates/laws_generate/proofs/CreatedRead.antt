@@ -43,7 +43,7 @@ use Rattle.lq_generate.specs.Created.{constraints_at, column_rows, column_tree, 
 use Rattle.laws_made.specs.CreatedAs.{constraints_in, column_of, constraints_of, created, given_of, IsWritten}
 use Rattle.laws_generate.specs.Again.{row_at}
 use Rattle.lq_generate.specs.Types.{Row, map_node, schema_at as schema_row, under, type_text}
-use Rattle.lq_tables.specs.Constraints.{default_keys}
+use Rattle.lq_value_keys.specs.ValueKeys.{default_keys}
 use Rattle.lq_tables.specs.declared.create_table.CreateTable.{CreateTable}
 use Rattle.lq_tables.specs.declared.create_table.CreatedColumn.{CreatedColumn}
 use Rattle.lq_tables.specs.declared.create_table.CreatedConstraints.{CreatedConstraints}

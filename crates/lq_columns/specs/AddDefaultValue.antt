@@ -13,8 +13,6 @@ use Rattle.lq_base.specs.declared.kind.Kind.{Kind}
 use Rattle.lq_base.specs.declared.name.Name.{Name}
 use Rattle.lq_base.specs.declared.reason.Reason.{Reason}
 use Rattle.lq_base.specs.declared.value.Value.{Value}
-use Rattle.lq_columns.specs.DefaultKeys.{default_keys, default_rows}
-use Rattle.lq_columns.specs.DefaultKeysLaws.{given_is_literal, value_told}
 use Rattle.lq_columns.specs.declared.add_default_value.AddDefaultValue.{AddDefaultValue}
 use Rattle.lq_model.proofs.Columns.{each_of_first}
 use Rattle.lq_model.proofs.Effects.{does_so, one_back_where, one_becomes, restores_so, some_same}
@@ -36,6 +34,8 @@ use Rattle.lq_tree.specs.Keys.{Keys, a_change_in, fields, optional, required, �
 use Rattle.lq_tree.specs.Look.{Found, Taken, and_then}
 use Rattle.lq_tree.specs.Values.{is_given, literal_of}
 use Rattle.lq_tree.specs.declared.values.GivenValue.{GivenValue}
+use Rattle.lq_value_keys.proofs.ValueLaws.{given_is_literal, value_told}
+use Rattle.lq_value_keys.specs.ValueKeys.{default_keys, default_rows}
 
 -- its keys
 
@@ -90,7 +90,7 @@ rows x =
     (codes "tableName", Some (text (text_of x.table_name)))
     ∷ (codes "columnName", Some (text x.column_name))
     ∷ (codes "columnDataType", option_map kind_value x.column_data_type)
-    ∷ (default_rows x.default_value ++ (codes "schemaName", schema_row x.table_name) ∷ [])
+    ∷ (default_rows (Some x.default_value) ++ (codes "schemaName", schema_row x.table_name) ∷ [])
 
 abbrev pub canonical_of : AddDefaultValue → CanonicalChange
 canonical_of x = change_of (codes "addDefaultValue") (rows x)
@@ -147,4 +147,4 @@ told d x y right also e =
     let s = right_of d y also in
     same x y (object_told d x.table_name y.table_name r.table s.table (ap (nth_value 0) is) (ap (nth_value 7) is)) (text_told (ap (nth_value 1) is))
     (kinds_told x.column_data_type y.column_data_type r.kind s.kind (ap (nth_value 2) is))
-    (value_told x.default_value y.default_value r.value s.value (ap (nth_value 3) is) (ap (nth_value 4) is) (ap (nth_value 5) is) (ap (nth_value 6) is))
+    (some_same (value_told (Some x.default_value) (Some y.default_value) r.value s.value (ap (nth_value 3) is) (ap (nth_value 4) is) (ap (nth_value 5) is) (ap (nth_value 6) is)))

@@ -2,13 +2,13 @@ ghost use Rattle.std.specs.Prelude.{◌≡◌, IfOk, true};
 ghost use Rattle.lq_tree.specs.Look.{Reads};
 ghost use Rattle.lq_columns.specs.AddDefaultValue.{add_default_value, is_for};
 
-use crate::default_keys::{DefaultAt, default_value};
 use lq_base::{Dialect, Duplicate, Items, Kind, KindFault, Name, NoMemory};
 use lq_model::{
     Canon, Change, Field, Fields, Look, SqlText, Statement, Undo, kind_field, schema_field,
     write_change_of,
 };
 use lq_tree::{GivenValue, Node, catalogue, in_schema, known, missing, optional, required, schema};
+use lq_value_keys::{default_at, default_value};
 use std::alloc::Global;
 
 /// A column gets a default (Liquibase's documentation, "addDefaultValue").
@@ -137,7 +137,7 @@ impl Change for AddDefaultValue {
             ("columnName", Some(Field::Text(self.column_name.as_key()))),
             ("columnDataType", kind_field(self.column_data_type)),
         ];
-        let default = DefaultAt(&self.default_value);
+        let default = default_at(Some(&self.default_value));
         let place = [("schemaName", schema_field(&self.table_name))];
         write_change_of(
             to,

@@ -2,7 +2,6 @@
 #![tactic(auto)]
 
 mod add_default_value;
-mod default_keys;
 mod drop_column;
 mod drop_default_value;
 

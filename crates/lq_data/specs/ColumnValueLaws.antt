@@ -1,15 +1,14 @@
 -- That columns with values can be written, and are told by their canonical text.
-use Rattle.std.proofs.Common.{ap}
+use Rattle.std.proofs.Common.{ap, ◌∙◌}
 use Rattle.std.specs.List.{list_all}
 use Rattle.std.specs.Option.{option_map, unwrap_or}
-use Rattle.std.specs.Prelude.{Bool, List, None, Option, Some, [], map, not, refl, true, ◌∷◌, ◌≡◌}
+use Rattle.std.specs.Prelude.{List, None, Option, Some, [], not, refl, true, ◌∷◌, ◌≡◌}
 use Rattle.lq_base.specs.Name.{is_name}
 use Rattle.lq_base.specs.Number.{if_there}
 use Rattle.lq_base.specs.declared.literal.Literal.TheVariants as literal
-use Rattle.lq_data.specs.ColumnValue.{column_rows, is_column_value, literal_in, literals_of, names_of, sets_of}
-use Rattle.lq_data.specs.ValueKeysLaws.{given_is_literal, value_told}
+use Rattle.lq_data.specs.ColumnValue.{column_rows, is_column_value, literal_in, literals_of, names_of, set_in, sets_of}
 use Rattle.lq_data.specs.declared.column_value.ColumnValue.{ColumnValue}
-use Rattle.lq_model.proofs.Lists.{and_left, and_right, and_true}
+use Rattle.lq_model.proofs.Lists.{all-map, all_more, and_left, and_right}
 use Rattle.lq_model.proofs.Told.{map_told, maps_told, text_told}
 use Rattle.lq_model.specs.Catalogue.{is_empty}
 use Rattle.lq_model.specs.Changes.{list}
@@ -18,14 +17,11 @@ use Rattle.lq_model.specs.TakesBack.{map_with, maps, nth_value}
 use Rattle.lq_tree.specs.Items.{are_some}
 use Rattle.lq_tree.specs.Values.{is_given, literal_of}
 use Rattle.lq_tree.specs.declared.values.GivenValue.{GivenValue}
+use Rattle.lq_value_keys.proofs.ValueLaws.{given_is_literal, value_told}
 
 pub all_columns : (xs : List ColumnValue) → are_some is_column_value xs ≡ true → list_all is_column_value xs ≡ true
 all_columns [] h = absurd Prim.cc
 all_columns (x ∷ xs) h = h
-
-all_of : {A B : Type 0} (p : A → Bool) (q : B → Bool) (f : A → B) → ((a : A) → p a ≡ true → q (f a) ≡ true) → (xs : List A) → list_all p xs ≡ true → list_all q (map f xs) ≡ true
-all_of p q f each [] h = refl
-all_of p q f each (x ∷ xs) h = and_true (q (f x)) _ (each x (and_left (p x) _ h)) (all_of p q f each xs (and_right (p x) _ h))
 
 literal_right : (x : ColumnValue) → is_column_value x ≡ true → is_literal (literal_in x) ≡ true
 literal_right x h = by x.value (and_right (is_name x.name) _ h) where
@@ -34,10 +30,10 @@ literal_right x h = by x.value (and_right (is_name x.name) _ h) where
   by (Some v) k = given_is_literal v k
 
 pub names_right : (xs : List ColumnValue) → are_some is_column_value xs ≡ true → list_all is_name (names_of xs) ≡ true
-names_right xs h = all_of is_column_value is_name (λ x. x.name) (λ x g. and_left (is_name x.name) _ g) xs (all_columns xs h)
+names_right xs h = all-map is_name (λ x. x.name) xs ∙ all_more is_column_value (λ x. is_name x.name) xs (λ x g. and_left (is_name x.name) _ g) (all_columns xs h)
 
 pub literals_right : (xs : List ColumnValue) → are_some is_column_value xs ≡ true → list_all is_literal (literals_of xs) ≡ true
-literals_right xs h = all_of is_column_value is_literal literal_in literal_right xs (all_columns xs h)
+literals_right xs h = all-map is_literal literal_in xs ∙ all_more is_column_value (λ x. is_literal (literal_in x)) xs literal_right (all_columns xs h)
 
 pub some_literals : (xs : List ColumnValue) → are_some is_column_value xs ≡ true → not (is_empty (literals_of xs)) ≡ true
 some_literals [] h = absurd Prim.cc
@@ -48,10 +44,10 @@ some_sets [] h = absurd Prim.cc
 some_sets (x ∷ xs) h = refl
 
 pub set_names_right : (xs : List ColumnValue) → are_some is_column_value xs ≡ true → list_all (λ s. is_name s.0) (sets_of xs) ≡ true
-set_names_right xs h = all_of is_column_value (λ s. is_name s.0) (λ x. (x.name, literal_in x)) (λ x g. and_left (is_name x.name) _ g) xs (all_columns xs h)
+set_names_right xs h = all-map (λ s. is_name s.0) set_in xs ∙ all_more is_column_value (λ x. is_name x.name) xs (λ x g. and_left (is_name x.name) _ g) (all_columns xs h)
 
 pub set_literals_right : (xs : List ColumnValue) → are_some is_column_value xs ≡ true → list_all (λ s. is_literal s.1) (sets_of xs) ≡ true
-set_literals_right xs h = all_of is_column_value (λ s. is_literal s.1) (λ x. (x.name, literal_in x)) literal_right xs (all_columns xs h)
+set_literals_right xs h = all-map (λ s. is_literal s.1) set_in xs ∙ all_more is_column_value (λ x. is_literal (literal_in x)) xs literal_right (all_columns xs h)
 
 -- their texts tell them
 

@@ -1,4 +1,3 @@
-pub mod ValueKeysLaws
 pub mod ColumnValueLaws
 pub mod Delete
 pub mod GivenTestLaws

@@ -2,10 +2,10 @@
 ghost use Rattle.std.specs.Prelude.{◌≡◌, IfOk};
 ghost use Rattle.lq_data.specs.ColumnValue.{literal_in, literals_of, names_of, set_in, sets_of};
 
-use crate::value_keys::{ValueAt, stated_value};
 use lq_base::{Duplicate, Items, KindFault, Literal, Name, NoMemory};
 use lq_model::{Canon, Field, Fields, Written};
 use lq_tree::{Given, GivenValue, Node, known, required};
+use lq_value_keys::{stated_value, value_at};
 use std::alloc::Global;
 
 /// A column with the value that it takes in a row.
@@ -48,7 +48,7 @@ impl Written for ColumnValue {
 
     fn write(&self, to: &mut Canon) -> Result<(), NoMemory> {
         let name = [("name", Some(Field::Name(&self.name)))];
-        (Fields(&name), ValueAt(&self.value)).write(to)
+        (Fields(&name), value_at(self.value.as_ref())).write(to)
     }
 }
 

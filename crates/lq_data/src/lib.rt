@@ -11,7 +11,6 @@ mod script;
 mod sql;
 mod tag_database;
 mod update;
-mod value_keys;
 
 pub use column_value::ColumnValue;
 pub use delete::Delete;

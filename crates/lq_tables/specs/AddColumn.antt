@@ -25,7 +25,7 @@ use Rattle.lq_model.specs.declared.constraint.ForeignKey.{ForeignKey}
 use Rattle.lq_model.specs.declared.constraint.Unique.{Unique}
 use Rattle.lq_model.specs.declared.statement.Statement.{Statement}
 use Rattle.lq_model.specs.declared.statement.Statement.TheVariants as statement
-use Rattle.lq_tables.specs.Constraints.{a_reference, default_keys, default_rows, foreign_stated, is_reference, set_keys, set_rows, unique_stated}
+use Rattle.lq_tables.specs.Constraints.{a_reference, foreign_stated, is_reference, unique_stated}
 use Rattle.lq_tables.specs.declared.add_column.AddColumn.{AddColumn}
 use Rattle.lq_tables.specs.declared.add_column.AddedColumn.{AddedColumn}
 use Rattle.lq_tables.specs.declared.add_column.AddedConstraints.{AddedConstraints}
@@ -35,6 +35,7 @@ use Rattle.lq_tree.specs.Keys.{Keys, a_change_in, fields, map_with, optional, re
 use Rattle.lq_tree.specs.Look.{Found, Taken, and_then}
 use Rattle.lq_tree.specs.Values.{is_given, literal_of}
 use Rattle.lq_tree.specs.declared.values.GivenValue.{GivenValue}
+use Rattle.lq_value_keys.specs.ValueKeys.{default_keys, default_rows, value_keys, value_rows}
 
 -- its keys
 
@@ -62,7 +63,7 @@ column_keys =
     ⊛ required (codes "type") a_kind
     ⊛ default_keys
     ⊛ optional (codes "constraints") a_constraints
-    ⊛ set_keys
+    ⊛ value_keys
 
 unfoldable pub added_column : Taken AddedColumn
 added_column = map_with (codes "remarks" ∷ []) column_keys
@@ -218,7 +219,7 @@ abbrev pub column_rows : AddedColumn → List Row
 column_rows x =
     ((codes "name", Some (text x.name)) ∷ (codes "type", Some (kind_value x.kind)) ∷ [])
     ++ (default_rows x.default_value
-    ++ ((codes "constraints", option_map (λ cs. map_of (pairs_of (constraints_rows cs))) x.constraints) ∷ set_rows x.value))
+    ++ ((codes "constraints", option_map (λ cs. map_of (pairs_of (constraints_rows cs))) x.constraints) ∷ value_rows x.value))
 
 abbrev pub rows : AddColumn → List Row
 rows x = (codes "tableName", Some (text (text_of x.table_name))) ∷ (codes "columns", Some (list (maps column_rows x.columns))) ∷ (codes "schemaName", schema_row x.table_name) ∷ []

@@ -43,7 +43,6 @@ use Rattle.lq_model.specs.declared.statement.Statement.TheVariants as statement
 use Rattle.lq_tables.specs.AddColumn.{becomes, becomes_all, canonical_of, column_becomes, column_gives, column_inverse, column_made, column_rows, constraints_rows, def_of, default_of, effect, firms, foreign_of, gives, inverse, inverse_all, is_added, is_constraints, is_firm, is_for, is_fresh, joins, leaves, parts, refers, rows, sets, unique_of, value_made}
 use Rattle.lq_tables.specs.Constraints.{foreign_stated, is_reference, unique_stated}
 use Rattle.lq_tables.specs.ConstraintsLaws.{foreign_spelled, reference_told, unique_spelled}
-use Rattle.lq_tables.specs.ValueKeysLaws.{given_is_literal, value_told}
 use Rattle.lq_tables.specs.declared.add_column.AddColumn.{AddColumn}
 use Rattle.lq_tables.specs.declared.add_column.AddedColumn.{AddedColumn}
 use Rattle.lq_tables.specs.declared.add_column.AddedConstraints.{AddedConstraints}
@@ -51,6 +50,7 @@ use Rattle.lq_tables.specs.declared.constraints.Reference.{Reference}
 use Rattle.lq_tree.specs.Items.{are_some}
 use Rattle.lq_tree.specs.Values.{is_given, literal_of}
 use Rattle.lq_tree.specs.declared.values.GivenValue.{GivenValue}
+use Rattle.lq_value_keys.proofs.ValueLaws.{given_is_literal, value_told}
 
 -- a column at the end, and the columns and rows before it
 

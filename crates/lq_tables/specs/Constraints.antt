@@ -1,23 +1,16 @@
 -- What createTable and addColumn can state of a column besides its kind and values.
-use Rattle.std.specs.Option.{option_and_then, option_copied, option_map, unwrap_or}
-use Rattle.std.specs.Prelude.{Bool, List, None, Option, Some, [], codes, drop, false, if◌then◌else◌, length, nat_le, take, ℕ, ◌&&◌, ◌+◌, ◌==◌, ◌∷◌}
+use Rattle.std.specs.Option.{option_and_then, option_map, unwrap_or}
+use Rattle.std.specs.Prelude.{Bool, List, None, Option, Some, [], drop, false, if◌then◌else◌, length, nat_le, take, ℕ, ◌&&◌, ◌+◌, ◌==◌, ◌∷◌}
 use Rattle.std.specs.Str.{is_utf8}
 use Rattle.lq_base.specs.Name.{beside, is_name, is_named, text_of}
 use Rattle.lq_base.specs.declared.name.Name.{Name}
-use Rattle.lq_model.specs.Changes.{CanonicalValue, decimal_value, number, text, truth}
 use Rattle.lq_model.specs.Sound.{unique_name}
-use Rattle.lq_model.specs.TakesBack.{Row}
 use Rattle.lq_model.specs.declared.constraint.ForeignKey.{ForeignKey}
 use Rattle.lq_model.specs.declared.constraint.Unique.{Unique}
 use Rattle.lq_model.specs.declared.table_item.Target.{Target}
 use Rattle.lq_tables.specs.declared.constraints.Reference.{Reference}
-use Rattle.lq_tables.specs.declared.value_keys.ValueAt.{ValueAt}
 use Rattle.lq_tree.specs.Given.{a_text, if_so}
-use Rattle.lq_tree.specs.Keys.{Keys}
 use Rattle.lq_tree.specs.Look.{Taken, and_then, or_bad}
-use Rattle.lq_tree.specs.Values.{family}
-use Rattle.lq_tree.specs.declared.values.GivenValue.{GivenValue}
-use Rattle.lq_tree.specs.declared.values.GivenValue.TheVariants.{Date, Decimal, Text, Truth, Whole}
 
 -- a text that is a name
 abbrev pub name_in : List ℕ → Option Name
@@ -68,49 +61,3 @@ abbrev pub foreign_stated : Name → Name → Option Reference → Option Name �
 foreign_stated t n None name = None
 foreign_stated t n (Some r) None = None
 foreign_stated t n (Some r) (Some name) = Some (record { name = name; columns = n ∷ []; table = beside t (text_of r.target.table); targets = r.target.column ∷ []; cascade = false })
-
--- The four keys that can state a value.
-
--- `defaultValue` and the like
-abbrev pub default_keys : Keys (Option GivenValue)
-default_keys = family (codes "defaultValue") (codes "defaultValueNumeric") (codes "defaultValueBoolean") (codes "defaultValueDate")
-
--- `value` and the like
-abbrev pub set_keys : Keys (Option GivenValue)
-set_keys = family (codes "value") (codes "valueNumeric") (codes "valueBoolean") (codes "valueDate")
-
--- in canonical text
-
-abbrev pub text_in : GivenValue → Option CanonicalValue
-text_in (Text t) = Some (text t)
-text_in _ = None
-
--- a decimal number is a text
-abbrev pub number_in : GivenValue → Option CanonicalValue
-number_in (Whole n) = Some (number n)
-number_in (Decimal units scale) = Some (decimal_value units scale)
-number_in _ = None
-
-abbrev pub truth_in : GivenValue → Option CanonicalValue
-truth_in (Truth b) = Some (truth b)
-truth_in _ = None
-
-abbrev pub date_in : GivenValue → Option CanonicalValue
-date_in (Date t) = Some (text t)
-date_in _ = None
-
--- one of the four keys has the value, where there is one
-abbrev pub value_rows : List ℕ → List ℕ → List ℕ → List ℕ → Option GivenValue → List Row
-value_rows a b c e v = (a, option_and_then text_in v) ∷ (b, option_and_then number_in v) ∷ (c, option_and_then truth_in v) ∷ (e, option_and_then date_in v) ∷ []
-
--- `defaultValue` and the like
-abbrev pub default_rows : Option GivenValue → List Row
-default_rows v = value_rows (codes "defaultValue") (codes "defaultValueNumeric") (codes "defaultValueBoolean") (codes "defaultValueDate") v
-
--- `value` and the like
-abbrev pub set_rows : Option GivenValue → List Row
-set_rows v = value_rows (codes "value") (codes "valueNumeric") (codes "valueBoolean") (codes "valueDate") v
-
--- what a value with its keys has
-abbrev pub rows_at : ValueAt → List Row
-rows_at at = value_rows at.text.now at.number.now at.truth.now at.date.now (option_copied at.value)

@@ -23,7 +23,7 @@ use Rattle.lq_model.specs.declared.constraint.Key.{Key}
 use Rattle.lq_model.specs.declared.constraint.Unique.{Unique}
 use Rattle.lq_model.specs.declared.statement.Statement.{Statement}
 use Rattle.lq_model.specs.declared.statement.Statement.TheVariants as statement
-use Rattle.lq_tables.specs.Constraints.{a_reference, default_keys, default_rows, foreign_stated, is_reference, unique_stated}
+use Rattle.lq_tables.specs.Constraints.{a_reference, foreign_stated, is_reference, unique_stated}
 use Rattle.lq_tables.specs.declared.create_table.CreateTable.{CreateTable}
 use Rattle.lq_tables.specs.declared.create_table.CreatedColumn.{CreatedColumn}
 use Rattle.lq_tables.specs.declared.create_table.CreatedConstraints.{CreatedConstraints}
@@ -32,6 +32,7 @@ use Rattle.lq_tree.specs.Items.{a_column, are_some, required_items}
 use Rattle.lq_tree.specs.Keys.{Keys, a_change_in, fields, map_with, optional, required, ◌⊛◌}
 use Rattle.lq_tree.specs.Look.{Found, Taken, and_then}
 use Rattle.lq_tree.specs.Values.{is_given, literal_of}
+use Rattle.lq_value_keys.specs.ValueKeys.{default_keys, default_rows}
 
 -- its keys
 

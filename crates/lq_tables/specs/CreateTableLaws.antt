@@ -14,7 +14,7 @@ use Rattle.lq_base.specs.declared.name.Name.{Name}
 use Rattle.lq_model.proofs.CreateDrop.{drop_after_create}
 use Rattle.lq_model.proofs.DefaultNames.{default_named}
 use Rattle.lq_model.proofs.Effects.{does_so, one_back, one_becomes, restores_so, some_same}
-use Rattle.lq_model.proofs.Lists.{all-append, and_left, and_right, and_true, named_itself}
+use Rattle.lq_model.proofs.Lists.{all-append, all-map, all_more, and_left, and_right, and_true, named_itself}
 use Rattle.lq_model.proofs.Told.{if_told, keys_told, kind_told, map_if_told, map_told, maps_told, object_told, text_told, texts_told, truths_told}
 use Rattle.lq_model.specs.Catalogue.{is_empty, key_list}
 use Rattle.lq_model.specs.Changes.{AreReturns, AreStatements, AreTold, HaveEffect, TakeBack, map_of, text}
@@ -28,7 +28,6 @@ use Rattle.lq_model.specs.declared.statement.Statement.TheVariants as statement
 use Rattle.lq_tables.specs.Constraints.{foreign_stated, is_reference, unique_stated}
 use Rattle.lq_tables.specs.ConstraintsLaws.{foreign_spelled, reference_told, unique_spelled}
 use Rattle.lq_tables.specs.CreateTable.{becomes, canonical_of, column_rows, constraints_rows, creates, def_of, effect, first_name, foreign_of, gives, inverse, is_constraints, is_created, is_for, is_fresh, is_in_key, key_column_of, key_columns, key_named, key_of, key_with, rows, stated_name, unique_of}
-use Rattle.lq_tables.specs.ValueKeysLaws.{given_is_literal, value_told}
 use Rattle.lq_tables.specs.declared.constraints.Reference.{Reference}
 use Rattle.lq_tables.specs.declared.create_table.CreateTable.{CreateTable}
 use Rattle.lq_tables.specs.declared.create_table.CreatedColumn.{CreatedColumn}
@@ -36,6 +35,7 @@ use Rattle.lq_tables.specs.declared.create_table.CreatedConstraints.{CreatedCons
 use Rattle.lq_tree.specs.Items.{are_some}
 use Rattle.lq_tree.specs.Values.{is_given, literal_of}
 use Rattle.lq_tree.specs.declared.values.GivenValue.{GivenValue}
+use Rattle.lq_value_keys.proofs.ValueLaws.{given_is_literal, value_told}
 
 -- what is right of constraints
 record AreRight (cs : CreatedConstraints) : Type 0 where
@@ -107,10 +107,6 @@ all_in : {A B : Type 0} (p : A → Bool) (q : B → Bool) (f : A → List B) →
 all_in p q f each [] h = refl
 all_in p q f each (x ∷ xs) h = all-append q (f x) (flat_map f xs) (each x (and_left (p x) _ h)) (all_in p q f each xs (and_right (p x) _ h))
 
-all_of : {A B : Type 0} (p : A → Bool) (q : B → Bool) (f : A → B) → ((a : A) → p a ≡ true → q (f a) ≡ true) → (xs : List A) → list_all p xs ≡ true → list_all q (map f xs) ≡ true
-all_of p q f each [] h = refl
-all_of p q f each (x ∷ xs) h = and_true (q (f x)) _ (each x (and_left (p x) _ h)) (all_of p q f each xs (and_right (p x) _ h))
-
 stated_right : (x : CreatedColumn) → is_created x ≡ true → if_there is_name (stated_name x) ≡ true
 stated_right x g = by (is_in_key x) x.constraints (right_of x g).constraints where
   by : (b : Bool) (o : Option CreatedConstraints) → if_there is_constraints o ≡ true → if_there is_name (if b then option_and_then (λ (cs : CreatedConstraints). cs.primary_key_name) o else None) ≡ true
@@ -165,7 +161,7 @@ spelled d x h =
     rw (
       t,
       not_empty x.columns some,
-      all_of is_created is_column_def def_of def_spelled x.columns all,
+      all-map is_column_def def_of x.columns ∙ all_more is_created (λ y. is_column_def (def_of y)) x.columns def_spelled all,
       key_right d x.table_name x.columns whole all,
       all_in is_created is_unique (unique_of x.table_name) (λ y g. unique_right x.table_name y whole g) x.columns all,
       all_in is_created (is_foreign d) (foreign_of x.table_name) (λ y g. foreign_right d x.table_name y t g) x.columns all,

@@ -1,7 +1,6 @@
 pub mod AddColumn
 pub mod AddColumnLaws
 pub mod ConstraintsLaws
-pub mod ValueKeysLaws
 pub mod CreateTable
 pub mod CreateTableLaws
 pub mod DropTable

@@ -7,7 +7,6 @@ ghost use Rattle.lq_tree.specs.Values.{literal_of};
 ghost use Rattle.lq_tables.specs.AddColumn.{add_column, column_gives, column_inverse, def_of, firms, foreign_of, inverse_all, is_firm, is_for, joins, leaves, parts, refers, sets, unique_of, with_foreign_name};
 
 use crate::constraints::{Reference, foreign_stated, reference_field, unique_stated};
-use crate::value_keys::{default_at, default_value, set_at, set_value};
 use lq_base::{Dialect, Duplicate, Items, Kind, KindFault, Literal, Name, NoMemory, both};
 use lq_last_first::{TakesBack, push_undoing};
 use lq_model::{
@@ -18,6 +17,7 @@ use lq_tree::{
     Given, GivenValue, Node, catalogue, in_schema, known, missing, optional, required,
     required_columns, schema,
 };
+use lq_value_keys::{default_at, default_value, stated_value, value_at};
 use std::alloc::Global;
 
 /// What is stated of a new column's values.
@@ -171,7 +171,7 @@ impl Given for AddedColumn {
         let kind = required(alloc, node, "type")?;
         let default_value = default_value(alloc, node)?;
         let constraints = optional(alloc, node, "constraints")?;
-        let value = set_value(alloc, node)?;
+        let value = stated_value(alloc, node)?;
         Ok(AddedColumn {
             name,
             kind,
@@ -540,8 +540,13 @@ impl Written for AddedColumn {
             key: "constraints",
             map: &self.constraints,
         };
-        let rest = (constraints, set_at(&self.value));
-        (Fields(&fields), default_at(&self.default_value), rest).write(to)
+        let rest = (constraints, value_at(self.value.as_ref()));
+        (
+            Fields(&fields),
+            default_at(self.default_value.as_ref()),
+            rest,
+        )
+            .write(to)
     }
 }
 

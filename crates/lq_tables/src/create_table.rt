@@ -6,7 +6,6 @@ ghost use Rattle.lq_tree.specs.Values.{literal_of};
 ghost use Rattle.lq_tables.specs.CreateTable.{create_table, creates, def_of, first_name, foreign_of, is_for, is_in_key, is_loose, key_column_of, key_columns, key_named, key_of, stated_name, unique_of, with_foreign_name};
 
 use crate::constraints::{Reference, foreign_stated, reference_field, unique_stated};
-use crate::value_keys::{default_at, default_value};
 use lq_base::{Dialect, Duplicate, Items, Kind, KindFault, Literal, Name, NoMemory, both};
 use lq_model::{
     Canon, Change, ColumnDef, Field, Fields, ForeignKey, Key, Look, MapAt, MapsAt, SqlText,
@@ -17,6 +16,7 @@ use lq_tree::{
     Given, GivenValue, Node, catalogue, in_schema, known, missing, optional, required,
     required_columns, schema,
 };
+use lq_value_keys::{default_at, default_value};
 use std::alloc::Global;
 
 /// What is stated of a column of a new table.
@@ -485,7 +485,7 @@ impl Written for CreatedColumn {
         };
         (
             Fields(&fields),
-            default_at(&self.default_value),
+            default_at(self.default_value.as_ref()),
             constraints,
         )
             .write(to)

@@ -6,7 +6,6 @@ mod constraints;
 mod create_table;
 mod drop_table;
 mod rename_table;
-mod value_keys;
 
 pub use add_column::{AddColumn, AddedColumn, AddedConstraints};
 pub use constraints::Reference;

@@ -1,17 +1,17 @@
-//! The four keys that can state a value, read and written.
+ghost use Rattle.std.specs.Option.{option_copied};
 ghost use Rattle.std.specs.Prelude.{◌≡◌, IfOk, true};
 ghost use Rattle.lq_base.specs.Number.{if_there};
 ghost use Rattle.lq_tree.specs.Look.{Reads};
 ghost use Rattle.lq_tree.specs.Values.{is_given};
-ghost use Rattle.lq_tables.specs.Constraints.{default_keys, default_rows, rows_at, set_keys, set_rows};
+ghost use Rattle.lq_value_keys.specs.ValueKeys.{default_keys, default_rows, rows_at, value_keys, value_rows};
 
 use lq_base::{KindFault, NoMemory};
 use lq_model::{Canon, Field, Fields, Written};
 use lq_tree::{GivenValue, Node, family};
 use std::alloc::Global;
 
-/// `defaultValue` and the like.
-pub(crate) fn default_value(alloc: Global, node: &Node) -> Result<Option<GivenValue>, KindFault>
+/// What `defaultValue` and the like state.
+pub fn default_value(alloc: Global, node: &Node) -> Result<Option<GivenValue>, KindFault>
     ensures read { Reads (default_keys.says node.now) result }
     ensures fits { IfOk result (λ given. if_there is_given given ≡ true) }
 {
@@ -25,9 +25,9 @@ pub(crate) fn default_value(alloc: Global, node: &Node) -> Result<Option<GivenVa
     )
 }
 
-/// `value` and the like.
-pub(crate) fn set_value(alloc: Global, node: &Node) -> Result<Option<GivenValue>, KindFault>
-    ensures read { Reads (set_keys.says node.now) result }
+/// What `value` and the like state.
+pub fn stated_value(alloc: Global, node: &Node) -> Result<Option<GivenValue>, KindFault>
+    ensures read { Reads (value_keys.says node.now) result }
     ensures fits { IfOk result (λ given. if_there is_given given ≡ true) }
 {
     family(
@@ -40,18 +40,18 @@ pub(crate) fn set_value(alloc: Global, node: &Node) -> Result<Option<GivenValue>
     )
 }
 
-/// A value with the keys of which one states it.
+/// A value with the keys of which one states it, to be written where there is one.
 #[derive(Drop)]
-pub(crate) struct ValueAt<'a> {
-    pub(crate) text: &'a str,
-    pub(crate) number: &'a str,
-    pub(crate) truth: &'a str,
-    pub(crate) date: &'a str,
-    pub(crate) value: Option<&'a GivenValue>,
+pub struct ValueAt<'a> {
+    text: &'a str,
+    number: &'a str,
+    truth: &'a str,
+    date: &'a str,
+    value: Option<&'a GivenValue>,
 }
 
 impl Written for ValueAt<'_> {
-    ghost use Rattle.lq_tables.specs.Constraints.{rows_at};
+    ghost use Rattle.lq_value_keys.specs.ValueKeys.{rows_at};
 
     ghost rows = { rows_at };
 
@@ -85,27 +85,27 @@ impl Written for ValueAt<'_> {
 }
 
 /// A default with its keys.
-pub(crate) fn default_at(value: &Option<GivenValue>) -> ValueAt
-    ensures { rows_at result ≡ default_rows value.now }
+pub fn default_at(value: Option<&GivenValue>) -> ValueAt
+    ensures { rows_at result ≡ default_rows (option_copied value.entry) }
 {
     ValueAt {
         text: "defaultValue",
         number: "defaultValueNumeric",
         truth: "defaultValueBoolean",
         date: "defaultValueDate",
-        value: value.as_ref(),
+        value,
     }
 }
 
 /// A value with its keys.
-pub(crate) fn set_at(value: &Option<GivenValue>) -> ValueAt
-    ensures { rows_at result ≡ set_rows value.now }
+pub fn value_at(value: Option<&GivenValue>) -> ValueAt
+    ensures { rows_at result ≡ value_rows (option_copied value.entry) }
 {
     ValueAt {
         text: "value",
         number: "valueNumeric",
         truth: "valueBoolean",
         date: "valueDate",
-        value: value.as_ref(),
+        value,
     }
 }

@@ -1,15 +1,15 @@
--- That the keys of a value tell it.
+-- That the keys of a value tell it, and that it can be written in a statement.
 use Rattle.std.proofs.Common.{ap, sym}
 use Rattle.std.specs.Option.{option_and_then}
 use Rattle.std.specs.Prelude.{None, Option, Some, refl, true, ℕ, ℤ, ◌≡◌}
 use Rattle.lq_base.specs.Number.{if_there}
 use Rattle.lq_base.specs.declared.literal.Literal.TheVariants as literal
-use Rattle.lq_data.specs.ColumnValue.{date_in, number_in, text_in, truth_in}
 use Rattle.lq_model.proofs.Told.{decimal_told, number_told, text_told, truth_told}
 use Rattle.lq_model.specs.Comparison.{is_literal}
 use Rattle.lq_tree.specs.Values.{is_given, literal_of}
 use Rattle.lq_tree.specs.declared.values.GivenValue.{GivenValue}
 use Rattle.lq_tree.specs.declared.values.GivenValue.TheVariants.{Date, Decimal, Text, Truth, Whole}
+use Rattle.lq_value_keys.specs.ValueKeys.{date_in, number_in, text_in, truth_in}
 
 same_fixed : {u w : ℤ} {s q : ℕ} → literal.Fixed u s ≡ literal.Fixed w q → Decimal u s ≡ Decimal w q
 same_fixed h = ap (λ l. elim l [ literal.Fixed u s ↦ Decimal u s | _ ↦ Truth true ]) h
@@ -32,7 +32,6 @@ value_told None (Some w) g h a b c e = absurd (no_given w a b c e)
 value_told (Some v) None g h a b c e = absurd (no_given v (sym a) (sym b) (sym c) (sym e))
 value_told v w g h a b c e = absurd Prim.cc
 
--- it can be written in a statement
 pub given_is_literal : (v : GivenValue) → is_given v ≡ true → is_literal (literal_of v) ≡ true
 given_is_literal (Text t) h = refl
 given_is_literal (Whole n) h = h
