@@ -10,6 +10,7 @@ use Rattle.lq_base.specs.declared.dialect.Dialect.{Dialect}
 use Rattle.lq_base.specs.declared.dialect.Dialect.TheVariants.{Mysql, Postgresql}
 use Rattle.lq_base.specs.declared.name.Name.{Name}
 use Rattle.lq_base.specs.declared.reason.Reason.{Reason}
+use Rattle.lq_keys.specs.NamedLaws.{listed, named}
 use Rattle.lq_model.proofs.DefaultNames.{default_named}
 use Rattle.lq_model.proofs.Effects.{does_so, one_becomes, restores_so, some_same}
 use Rattle.lq_model.proofs.Lists.{and_left, and_right, and_true, named_itself}
@@ -27,7 +28,6 @@ use Rattle.lq_model.specs.declared.statement.Statement.{Statement}
 use Rattle.lq_model.specs.declared.statement.Statement.TheVariants as statement
 use Rattle.lq_primary_keys.specs.Drops.{drops_key}
 use Rattle.lq_primary_keys.specs.DropsLaws.{key_back, key_spelled}
-use Rattle.lq_primary_keys.specs.NamedLaws.{listed, named}
 use Rattle.lq_primary_keys.specs.declared.add_primary_key.AddPrimaryKey.{AddPrimaryKey}
 use Rattle.lq_tree.specs.Given.{a_name, some_names}
 use Rattle.lq_tree.specs.Items.{are_some}

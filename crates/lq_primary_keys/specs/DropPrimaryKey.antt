@@ -8,6 +8,7 @@ use Rattle.lq_base.specs.Number.{if_there}
 use Rattle.lq_base.specs.declared.dialect.Dialect.{Dialect}
 use Rattle.lq_base.specs.declared.name.Name.{Name}
 use Rattle.lq_base.specs.declared.reason.Reason.{Reason}
+use Rattle.lq_keys.specs.NamedLaws.{named}
 use Rattle.lq_model.proofs.DefaultNames.{default_named}
 use Rattle.lq_model.proofs.Effects.{does_so, restores_so}
 use Rattle.lq_model.proofs.Lists.{and_left, and_right, and_true}
@@ -21,7 +22,6 @@ use Rattle.lq_model.specs.TakesBack.{Row, change_of, nth_value, schema_row}
 use Rattle.lq_model.specs.declared.statement.Statement.{Statement}
 use Rattle.lq_primary_keys.specs.Drops.{drops_key, key_dropped}
 use Rattle.lq_primary_keys.specs.DropsLaws.{key_becomes, key_spelled}
-use Rattle.lq_primary_keys.specs.NamedLaws.{named}
 use Rattle.lq_primary_keys.specs.declared.drop_primary_key.DropPrimaryKey.{DropPrimaryKey}
 use Rattle.lq_tree.specs.Given.{a_name}
 use Rattle.lq_tree.specs.Keys.{Keys, a_change_in, fields, optional, required, ◌⊛◌}

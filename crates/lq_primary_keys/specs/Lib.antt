@@ -1,5 +1,4 @@
 pub mod AddPrimaryKey
 pub mod DropsLaws
-pub mod NamedLaws
 pub mod DropPrimaryKey
 pub mod Drops

@@ -2,13 +2,14 @@
 use Rattle.std.proofs.Common.{ap, subst, sym, ◌∙◌}
 use Rattle.std.specs.List.{list_all}
 use Rattle.std.specs.Option.{option_map, unwrap_or}
-use Rattle.std.specs.Prelude.{Bool, List, Option, Result, Some, [], codes, refl, true, ◌&&◌, ◌∷◌, ◌≡◌}
+use Rattle.std.specs.Prelude.{Bool, List, Option, Result, Some, [], codes, not, refl, true, ◌&&◌, ◌∷◌, ◌≡◌}
 use Rattle.lq_base.proofs.BesideLemmas.{is_whole}
 use Rattle.lq_base.specs.Name.{is_name, is_object, text_of, within}
 use Rattle.lq_base.specs.Number.{if_there}
 use Rattle.lq_base.specs.declared.dialect.Dialect.{Dialect}
 use Rattle.lq_base.specs.declared.name.Name.{Name}
 use Rattle.lq_base.specs.declared.reason.Reason.{Reason}
+use Rattle.lq_keys.specs.NamedLaws.{listed, named}
 use Rattle.lq_model.proofs.DefaultNames.{default_named}
 use Rattle.lq_model.proofs.Effects.{does_so, one_becomes, restores_so, some_same}
 use Rattle.lq_model.proofs.Lists.{and_left, and_right, and_true}
@@ -25,12 +26,11 @@ use Rattle.lq_model.specs.declared.constraint.Unique.{Unique}
 use Rattle.lq_model.specs.declared.statement.Statement.{Statement}
 use Rattle.lq_model.specs.declared.statement.Statement.TheVariants as statement
 use Rattle.lq_tree.specs.Given.{a_name, some_names}
-use Rattle.lq_tree.specs.Items.{are_some}
+use Rattle.lq_tree.specs.Items.{are_some, is_empty}
 use Rattle.lq_tree.specs.Keys.{Keys, a_change_in, fields, optional, required, ◌⊛◌}
 use Rattle.lq_tree.specs.Look.{Taken}
 use Rattle.lq_uniques.specs.Drops.{drops_unique}
 use Rattle.lq_uniques.specs.DropsLaws.{unique_back, unique_spelled}
-use Rattle.lq_uniques.specs.NamedLaws.{all_named, listed, named}
 use Rattle.lq_uniques.specs.declared.add_unique.AddUniqueConstraint.{AddUniqueConstraint}
 
 -- its keys
@@ -94,7 +94,7 @@ name_named d x h =
     let t = and_left (is_object d x.table_name) _ h in
     let more = and_right (is_object d x.table_name) _ h in
     let ns = and_left (are_some is_name x.column_names) _ more in
-    named x.constraint_name (unique_name x.table_name x.column_names) (and_right (are_some is_name x.column_names) _ more) (default_named d x.table_name x.column_names (is_whole d x.table_name t) (all_named x.column_names ns)).1
+    named x.constraint_name (unique_name x.table_name x.column_names) (and_right (are_some is_name x.column_names) _ more) (default_named d x.table_name x.column_names (is_whole d x.table_name t) (and_right (not (is_empty x.column_names)) _ ns)).1
 
 pub spelled : AreStatements is_for gives
 spelled d x h =
