@@ -206,6 +206,8 @@ module _ {Answer : Type 0} {as_locked : Lock → Answer} {busy : ℕ → Answer}
         pub used_is : used ≡ filled + size_of_all (entries_of d x.entries)
         pub next_is : next ≡ size_of_all (entries_of d (appended d call session))
         pub full : is_full (end_of (room_of call) limit) used (entries_of d (appended d call session)) ≡ true
+        -- only the call that frees the lock may use all of the journal, and nothing is begun then
+        pub which : (room_of call ≡ Ordinary) ⊎ ((call ≡ closing) × (session.begun ≡ []))
 
       abbrev pub HasCause : ℕ → ℕ → ℕ → Machine Answer as_locked busy → DrillFault → Type 0
       HasCause filled limit n x fault.Disk = Unit {0}

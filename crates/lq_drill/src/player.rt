@@ -15,6 +15,7 @@ pub trait Player {
     ghost use Rattle.lq_base.specs.declared.tracking.Lock.{Lock};
     ghost use Rattle.lq_drill.specs.Player.{Standing};
     ghost use Rattle.lq_drill.specs.declared.fault.DrillFault.{DrillFault};
+    ghost use Rattle.lq_turns.specs.Schedule.{Holder};
 
     /// What a command answers.
     type Answer;
@@ -76,4 +77,9 @@ pub trait Player {
 
     /// What it took is held.
     ghost held: { (player : Self) (lock : Lock) → (standing player).owns lock → lock.locked ≡ true };
+
+    /// The fault that it owes is what it is to answer, where it is the holder.
+    ghost owed: { (player : Self) (why : DrillFault) (holder : Holder Self.Answer locked busy)
+        → (standing player).owes why → (standing player).is_at holder
+        → holder.answer ≡ failed why };
 }

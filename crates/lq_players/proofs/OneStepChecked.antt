@@ -136,6 +136,7 @@ module _ (d : Dialect) (stamp : Stamp) (it : AtOnce) (seen : Catalogue) where
             fits = and_left (all_fit d (tag_call row).deeds database) true (ap (λ calls. calls_fit d calls (session_on database)) (sym calls_are) ∙ tag_fits d tag seen database stands short);
             accepted = (record database { rows = map (tagged (identity_of row) tag) database.rows }, refl);
             free = ap (λ calls. (left_by d calls database).lock.locked) (sym calls_are) ∙ ap (λ (e : Database). e.lock.locked) (tag_leaves d tag row database last) ∙ shut;
+            which = inl refl;
           }
 
       tagged_by : (o : Option Tracked) → last_row rows ≡ o → (v : Verdict) → v ≡ tagging tag o → CheckedAt (step.Tag tag) nothing v
@@ -165,6 +166,7 @@ module _ (d : Dialect) (stamp : Stamp) (it : AtOnce) (seen : Catalogue) where
           fits = and_left (all_fit d free_call.deeds database) true (ap (λ calls. calls_fit d calls (session_on database)) (sym calls_are) ∙ release_fits d seen database stands);
           accepted = (record database { lock = free }, refl);
           free = ap (λ calls. (left_by d calls database).lock.locked) (sym calls_are) ∙ ap (λ (e : Database). e.lock.locked) ((release_leaves d database).0 held);
+          which = inr refl;
         }
 
     released_by : (b : Bool) → lock.locked ≡ b → (v : Verdict) → v ≡ releasing b → CheckedAt step.Release (freeing lock) v

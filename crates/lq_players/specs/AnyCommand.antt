@@ -9,6 +9,7 @@ use Rattle.lq_drill.specs.Drill.{Each, IsNew}
 use Rattle.lq_drill.specs.Faults.{is_barred}
 use Rattle.lq_drill.specs.Player.{Standing}
 use Rattle.lq_any.specs.declared.any_change.AnyChange.{AnyChange}
+use Rattle.lq_drill.specs.declared.fault.DrillFault.{DrillFault}
 use Rattle.lq_players.specs.AtOnce.{HasShortTag, command_of, once_ends, once_job, once_reports, once_way}
 use Rattle.lq_players.specs.RollingBack.{IsRead, back_ends, back_job, back_reports, back_way, turns_left}
 use Rattle.lq_players.specs.Syncing.{FitColumns, sync_ends, sync_job, sync_reports, sync_way}
@@ -20,9 +21,9 @@ use Rattle.lq_players.specs.declared.at_once.AtOnce.{AtOnce}
 use Rattle.lq_players.specs.declared.rolling_back.RollingBack.{RollingBack}
 use Rattle.lq_players.specs.declared.syncing.Syncing.{Syncing}
 use Rattle.lq_players.specs.declared.updating.Updating.{Updating}
-use Rattle.lq_playing.specs.Answers.{as_busy, as_locked}
+use Rattle.lq_playing.specs.Answers.{as_busy, as_failed, as_locked}
 use Rattle.lq_playing.specs.Checked.{Work}
-use Rattle.lq_playing.specs.Playing.{is_locked, stands}
+use Rattle.lq_playing.specs.Playing.{is_locked, is_owed, stands}
 use Rattle.lq_playing.specs.declared.came.Came.{Came}
 use Rattle.lq_playing.specs.declared.playing.Playing.{Playing}
 use Rattle.lq_run.specs.Stands.{IsHeld}
@@ -31,7 +32,7 @@ use Rattle.lq_track.specs.Database.{Database}
 use Rattle.lq_track.specs.Log.{identity_of}
 use Rattle.lq_turns.specs.Jobs.{Task}
 use Rattle.lq_turns.specs.Rest.{NoMore}
-use Rattle.lq_turns.specs.Schedule.{start}
+use Rattle.lq_turns.specs.Schedule.{Holder, start}
 use Rattle.lq_turns.specs.Serial.{none_early}
 use Rattle.lq_turns.specs.Set.{row_at}
 use Rattle.lq_turns.specs.declared.stamp.Stamp.{Stamp}
@@ -63,6 +64,13 @@ command_locked (any.AtOnce p) = is_locked p.runner.stamp
 command_locked (any.Update p) = is_locked p.runner.stamp
 command_locked (any.Rollback p) = is_locked p.runner.stamp
 command_locked (any.Sync p) = is_locked p.runner.stamp
+
+-- the fault that it met is what it is to answer
+pub command_owed : (player : AnyCommand) (why : DrillFault) (h : Holder Came as_locked as_busy) → (command_stands player).owes why → (command_stands player).is_at h → h.answer ≡ as_failed why
+command_owed (any.AtOnce p) = is_owed any_meaning (λ (it : AtOnce). NoMore) once_way (λ (it : AtOnce) (d : Dialect). HasShortTag (command_of it.command)) once_job once_ends once_reports p
+command_owed (any.Update p) = is_owed any_meaning update_left update_way IsUpdateFor update_job update_ends update_reports p
+command_owed (any.Rollback p) = is_owed any_meaning (λ (it : RollingBack). turns_left it.turns) back_way IsRead back_job back_ends back_reports p
+command_owed (any.Sync p) = is_owed any_meaning (λ (it : Syncing). NoMore) sync_way (λ (it : Syncing) (d : Dialect). FitColumns it) sync_job sync_ends sync_reports p
 
 -- it has made no step, and is ready for the first one, for statements of the dialect
 pub record IsUnstarted (d : Dialect) (player : AnyCommand) : Type 0 where

@@ -237,7 +237,7 @@ fn sync(
 
 impl Player for AnyCommand {
     ghost use Rattle.lq_changelog.specs.Gathers.{HasShortTexts};
-    ghost use Rattle.lq_players.specs.AnyCommand.{command_locked, command_stands};
+    ghost use Rattle.lq_players.specs.AnyCommand.{command_locked, command_owed, command_stands};
     ghost use Rattle.lq_playing.specs.Answers.{as_busy, as_failed, as_locked};
 
     type Answer = Came;
@@ -251,6 +251,8 @@ impl Player for AnyCommand {
     ghost standing = { command_stands };
 
     ghost held = { command_locked };
+
+    ghost owed = { command_owed };
 
     fn has_answered(&self) -> bool {
         match self {

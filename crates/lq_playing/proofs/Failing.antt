@@ -17,7 +17,7 @@ use Rattle.lq_playing.proofs.Falling.{brings_all, brings_fault, brings_none, cau
 use Rattle.lq_playing.proofs.Laters.{IsHolder, answer_is, answers_last, falls, fell_before, is_holder, left_to_call, open_not, rests_all, rests_begun, shows_last, to_call, to_call_last}
 use Rattle.lq_playing.proofs.Laters.{there as is_there}
 use Rattle.lq_playing.proofs.Machines.{Held, IsToCall, Runs, next_called}
-use Rattle.lq_playing.proofs.Marks.{bare_none, last_shut, not_both}
+use Rattle.lq_playing.proofs.Marks.{bare_none, last_shut, not_both, shut_next}
 use Rattle.lq_playing.proofs.Shown.{shut_none}
 use Rattle.lq_playing.specs.Answers.{FailsAs, fault_of, as_busy, as_failed, as_locked}
 use Rattle.lq_playing.specs.Checked.{Work}
@@ -174,13 +174,22 @@ module _ {Key Told T : Type 0} (m : Meaning Key) (stamp : Stamp) (way : T → Di
       own : (more : List Call) × IsToCall n x it.h met.call more
       own = to_call m stamp way answer_of n before after w r none begun under owns plain within opened free jobs origin x dialect shows plays it met.call met.more met.next
 
+      -- only the call that frees the lock may use all of the journal
+      which : (room_of met.call ≡ Ordinary) ⊎ ((met.call ≡ closing) × (it.h.session.begun ≡ []))
+      which = by_room (room_of met.call) refl where
+        by_room : (k : Room) → room_of met.call ≡ k → (room_of met.call ≡ Ordinary) ⊎ ((met.call ≡ closing) × (it.h.session.begun ≡ []))
+        by_room Ordinary is = inl is
+        by_room Release is =
+            let frees : met.call ≡ closing = frees_it stamp.who it.on.on.keeps.front met.call met.more (sym met.next ∙ it.on.on.keeps.is) it.on.on.keeps.holds is in
+            inr (frees, rests_begun m stamp way answer_of n before after w r none begun under owns plain within opened free jobs origin x dialect shows plays it (shut_next d m stamp (place r) it.h.session.is_open (both_of s) met.more it.on.on.ready (met.next ∙ ap (λ c. c ∷ met.more) frees)))
+
       meets : Meets as_failed d jobs origin.used origin.limit n x (fault_of f)
-      meets = record { at = x; is = inl refl; cause = cause origin w jobs n x x it.h met.call own.0 refl shows own.1 z room f met.by met.faults }
+      meets = record { at = x; is = inl refl; cause = cause origin w jobs n x x it.h met.call own.0 refl shows own.1 z room f met.by which met.faults }
 
       by : (g : StoreFault) → room ≡ Release ⊎ (g ≡ fault.Disk) → Faults w n w s room met.call g z → Rested (fault_of g)
       by fault.Disk may faults = tt
       by (fault.Full used next) (inl frees) faults =
-          let found = no_room origin w jobs n x x it.h met.call own.0 refl shows own.1 room used next met.by faults.0 in
+          let found = no_room origin w jobs n x x it.h met.call own.0 refl shows own.1 room used next met.by which faults.0 in
           inr (faults.1, (record { at = x; is = inl refl; cause = found.0 }, inr (found.1 ∙ frees_it stamp.who it.on.on.keeps.front met.call met.more (sym met.next ∙ it.on.on.keeps.is) it.on.on.keeps.holds (met.by ∙ frees))))
       by (fault.Full used next) (inr disk) faults = no_disk disk
       by fault.OutOfMemory may faults = inr faults
@@ -243,7 +252,10 @@ module _ {Key Told T : Type 0} (m : Meaning Key) (stamp : Stamp) (way : T → Di
         told = answers_last m stamp way answer_of n after origin w z jobs x at k closing [] shows_at left goes.after made goes.at.stands refl
 
       left_met : (f : StoreFault) → MeetsFault d m stamp n (between NoMore) w s w Release f z → why ≡ fault_of f → Stops
-      left_met f met is = subst (λ k. MovesAs as_failed jobs n before after origin w z x (Err k)) (sym is) ((to, inr (faulted, falls_so), brings_fault origin w jobs n x at k closing [] refl shows_at left z Release f faults), inr (meets_at (cause origin w jobs n x at k closing [] refl shows_at left z Release f refl faults)), by f faults) where
+      left_met f met is = subst (λ k. MovesAs as_failed jobs n before after origin w z x (Err k)) (sym is) ((to, inr (faulted, falls_so), brings_fault origin w jobs n x at k closing [] refl shows_at left z Release f faults), inr (meets_at (cause origin w jobs n x at k closing [] refl shows_at left z Release f refl frees_none faults)), by f faults) where
+        frees_none : (room_of closing ≡ Ordinary) ⊎ ((closing ≡ closing) × (k.session.begun ≡ []))
+        frees_none = inr (refl, rests_begun m stamp way answer_of n before after w r none begun under owns plain within opened free jobs origin x dialect shows plays it closed)
+
         faults : Faults w n w s Release closing f z
         faults = subst (λ c. Faults w n w s Release c f z) (sym (head_is met.next)) met.faults
 
@@ -253,7 +265,7 @@ module _ {Key Told T : Type 0} (m : Meaning Key) (stamp : Stamp) (way : T → Di
         by : (g : StoreFault) → Faults w n w s Release closing g z → Rested (fault_of g)
         by fault.Disk faults = tt
         by (fault.Full used next) faults =
-            let found = no_room origin w jobs n x at k closing [] refl shows_at left Release used next refl faults.0 in
+            let found = no_room origin w jobs n x at k closing [] refl shows_at left Release used next refl frees_none faults.0 in
             inr (faults.1, (record { at = at; is = inr (drill.OutOfMemory, it.h, it.held, rests_begun m stamp way answer_of n before after w r none begun under owns plain within opened free jobs origin x dialect shows plays it, same_at); cause = found.0 }, inr found.1))
         by fault.OutOfMemory faults = inr faults
         by (fault.Busy k) faults = absurd faults

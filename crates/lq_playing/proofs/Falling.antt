@@ -2,11 +2,12 @@
 use Rattle.std.proofs.Common.{ap, inl, subst, sym, ◌∙◌}
 use Rattle.std.proofs.lemmas.List.{append-nil}
 use Rattle.std.specs.Option.{option_map}
-use Rattle.std.specs.Prelude.{List, None, Option, Some, [], if◌then◌else◌, nat_eq, refl, true, ℕ, ◌++◌, ◌∷◌, ◌≡◌}
+use Rattle.std.specs.Prelude.{List, None, Option, Some, [], if◌then◌else◌, nat_eq, refl, true, ℕ, ◌++◌, ◌∷◌, ◌≡◌, ◌⊎◌}
 use Rattle.lq_base.specs.declared.dialect.Dialect.{Dialect}
 use Rattle.lq_drill.specs.Faults.{HasCause, HasNoRoom, gives_up, last_calls, left_with, IsHolders, LeftBetween, Shows, entries_of}
 use Rattle.lq_drill.specs.Player.{Brings, answer_of, held_by}
 use Rattle.lq_drill.specs.declared.fault.DrillFault.{DrillFault}
+use Rattle.lq_model.specs.declared.caller.Room.TheVariants.{Ordinary}
 use Rattle.lq_model.specs.declared.caller.Room.{Room}
 use Rattle.lq_model.specs.declared.fault.StoreFault.{StoreFault}
 use Rattle.lq_model.specs.declared.fault.StoreFault.TheVariants as fault
@@ -22,6 +23,7 @@ use Rattle.lq_run.specs.Does.{Breaks, Faults, HasNoRoom as NoRoom}
 use Rattle.lq_run.specs.Stands.{Stands, entry_of, entries_of as written_of}
 use Rattle.lq_store.specs.Journal.{Entry, end_of, is_full, size_of_all, State}
 use Rattle.lq_turns.specs.Schedule.{appended, has_begun, moved}
+use Rattle.lq_turns.specs.Script.{closing}
 use Rattle.lq_turns.specs.Session.{Session, called, room_of}
 use Rattle.lq_turns.specs.declared.call.Call.{Call}
 use Rattle.lq_turns.specs.declared.deed.Deed.{Deed}
@@ -108,8 +110,8 @@ module _ (origin w : State) (jobs : ℕ → Work) (n : ℕ) (first x : Runs) (h 
 
   -- which has its cause in the machine
 
-  pub no_room : (room : Room) (used next : ℕ) → room_of call ≡ room → NoRoom w.dialect room call (bare h.session) w used next → (it : HasNoRoom as_failed d jobs origin.used origin.limit n x used next) × (it.call ≡ call)
-  no_room room used next in_room met =
+  pub no_room : (room : Room) (used next : ℕ) → room_of call ≡ room → ((room_of call ≡ Ordinary) ⊎ ((call ≡ closing) × (h.session.begun ≡ []))) → NoRoom w.dialect room call (bare h.session) w used next → (it : HasNoRoom as_failed d jobs origin.used origin.limit n x used next) × (it.call ≡ call)
+  no_room room used next in_room which met =
       let none : NoRoom d room call (bare h.session) w used next = subst (λ k. NoRoom k room call (bare h.session) w used next) shows.dialect met in
       let written_is : none.written ≡ entries_of d (appended d call h.session) = none.appends.texts ∙ ap (λ (l : List (List Deed)). entries_of d l) (sym none.appends.entries) in (
         record {
@@ -122,17 +124,18 @@ module _ (origin w : State) (jobs : ℕ → Work) (n : ℕ) (first x : Runs) (h 
               ∙ ap (λ k. is_full (end_of k w.limit) used (entries_of d (appended d call h.session))) in_room
               ∙ ap (λ u. is_full (end_of room w.limit) u (entries_of d (appended d call h.session))) none.full.1.0
               ∙ ap (λ (l : List Entry). is_full (end_of room w.limit) w.used l) (sym written_is) ∙ none.full.0;
+          which = which;
         },
         refl,
       )
 
-  pub cause : (z : State) (room : Room) (why : StoreFault) → room_of call ≡ room → Faults w n w (bare h.session) room call why z → HasCause as_failed d jobs origin.used origin.limit n x (fault_of why)
-  cause z room fault.Disk in_room faults = tt
-  cause z room (fault.Full used next) in_room faults = (no_room room used next in_room faults.0).0
-  cause z room fault.OutOfMemory in_room faults = tt
-  cause z room (fault.Busy k) in_room faults = tt
-  cause z room fault.NotSql in_room faults = tt
-  cause z room (fault.Refused reason) in_room faults = tt
+  pub cause : (z : State) (room : Room) (why : StoreFault) → room_of call ≡ room → ((room_of call ≡ Ordinary) ⊎ ((call ≡ closing) × (h.session.begun ≡ []))) → Faults w n w (bare h.session) room call why z → HasCause as_failed d jobs origin.used origin.limit n x (fault_of why)
+  cause z room fault.Disk in_room which faults = tt
+  cause z room (fault.Full used next) in_room which faults = (no_room room used next in_room which faults.0).0
+  cause z room fault.OutOfMemory in_room which faults = tt
+  cause z room (fault.Busy k) in_room which faults = tt
+  cause z room fault.NotSql in_room which faults = tt
+  cause z room (fault.Refused reason) in_room which faults = tt
 
   -- a crash in it
   pub leaves_call : (there left : List Entry) → LeftInCall d call (bare h.session) there left → LeftBetween d first to there left

@@ -2,7 +2,7 @@
 use Rattle.std.proofs.Common.{ap, inl, inr, subst, sym, ◌∙◌}
 use Rattle.std.proofs.lemmas.List.{append-nil}
 use Rattle.std.specs.Option.{option_map}
-use Rattle.std.specs.Prelude.{Err, List, None, Ok, Option, Result, [], false, map, refl, true, ℕ, ◌++◌, ◌∷◌, ◌≡◌}
+use Rattle.std.specs.Prelude.{Err, List, None, Ok, Option, Result, [], false, map, refl, true, ℕ, ◌++◌, ◌∷◌, ◌≡◌, ◌⊎◌}
 use Rattle.lq_base.specs.declared.dialect.Dialect.{Dialect}
 use Rattle.lq_base.specs.declared.reason.Reason.{Reason}
 use Rattle.lq_drill.specs.Faults.{HasNoRoom, Meets, Shows, entries_of, entry_of}
@@ -36,7 +36,7 @@ use Rattle.lq_track.specs.Database.{Database}
 use Rattle.lq_turns.specs.Deed.{contents_of, with_contents, all_done, lock_after}
 use Rattle.lq_turns.specs.Schedule.{StandsFor, after_call, appended, moved}
 use Rattle.lq_turns.specs.Rest.{Turns, rest}
-use Rattle.lq_turns.specs.Script.{opening}
+use Rattle.lq_turns.specs.Script.{closing, opening}
 use Rattle.lq_turns.specs.Session.{Session, called, room_of, session_on}
 use Rattle.lq_turns.specs.Set.{Meaning}
 use Rattle.lq_turns.specs.declared.call.Call.{Call}
@@ -94,8 +94,8 @@ module _ (n : ℕ) (before after : Standing Came as_locked as_busy) (w : State) 
             }
 
         -- it does not go in
-        no_room : (used next : ℕ) → NoRoom d (room_of call) call first w used next → Meets as_failed d jobs origin.used origin.limit n x (drill.Full used next)
-        no_room used next it =
+        no_room : (used next : ℕ) → ((room_of call ≡ Ordinary) ⊎ (call ≡ closing)) → NoRoom d (room_of call) call first w used next → Meets as_failed d jobs origin.used origin.limit n x (drill.Full used next)
+        no_room used next which it =
             let let_in : IsLetIn (jobs n) x.committed = subst (λ j. IsLetIn j x.committed) (sym (plays.waits none fresh)) may.1 in
             let written_is : it.written ≡ entries_of d (appended d call first) = it.appends.texts ∙ ap (entries_of d) (sym it.appends.entries) in
             let full : is_full (end_of (room_of call) origin.limit) used (entries_of d (appended d call first)) ≡ true
@@ -108,10 +108,11 @@ module _ (n : ℕ) (before after : Standing Came as_locked as_busy) (w : State) 
               used_is = it.full.1.0 ∙ shows.used;
               next_is = it.full.1.1 ∙ ap size_of_all written_is;
               full = full;
+              which = elim which [ inl ordinary ↦ inl ordinary | inr frees ↦ inr (frees, refl) ];
             } in
             record { at = x; is = inl refl; cause = cause }
 
-    module _ (deeds : List Deed) (room : Room) (calls : List Call) (may : MayCall n w before.job x.committed) (passes : (jobs n).refuses x.committed ≡ None) (script_is : (jobs n).script x.committed ≡ Alone deeds room ∷ calls) (accepted : (now : Database) × (all_done w.dialect deeds x.committed ≡ Ok now)) (z : State) where
+    module _ (deeds : List Deed) (room : Room) (calls : List Call) (may : MayCall n w before.job x.committed) (passes : (jobs n).refuses x.committed ≡ None) (script_is : (jobs n).script x.committed ≡ Alone deeds room ∷ calls) (accepted : (now : Database) × (all_done w.dialect deeds x.committed ≡ Ok now)) (which : (room ≡ Ordinary) ⊎ (Alone deeds room ≡ closing)) (z : State) where
       abbrev call : Call
       call = Alone deeds room
 
@@ -120,7 +121,7 @@ module _ (n : ℕ) (before after : Standing Came as_locked as_busy) (w : State) 
           let meets : Meets as_failed d jobs origin.used origin.limit n x drill.Disk = record { at = x; is = inl refl; cause = tt } in
           ((to, inl refl, leaves_front call calls may passes script_is z (subst (λ k. Breaks k call first w z) shows.dialect broke)), inr meets, tt)
       stops_by (fault.Full used next) full =
-          let meets = no_room call calls may passes script_is z used next (subst (λ k. NoRoom k room call first w used next) shows.dialect full.0) in
+          let meets = no_room call calls may passes script_is z used next which (subst (λ k. NoRoom k room call first w used next) shows.dialect full.0) in
           ((to, inl refl, brings_none d jobs n x w z full.1), inr meets, inr (full.1, (meets, inl (plays.begun none ∙ fresh))))
       stops_by fault.OutOfMemory same = ((to, inl refl, brings_none d jobs n x w z same), lack_due jobs n before origin x, inr same)
       stops_by (fault.Refused reason) refused = absurd (ok_err (sym accepted.1 ∙ refused.0))
@@ -134,7 +135,7 @@ module _ (n : ℕ) (before after : Standing Came as_locked as_busy) (w : State) 
         let both = may (shows.dialect ∙ dialect) x.committed (subst (λ k. StandsFor k w.committed x.committed) dialect shows.committed) in
         let one : MakesOne before.dialect (jobs n) report call x.committed = subst (λ j. MakesOne before.dialect j report call x.committed) (sym (plays.waits none fresh)) both.1 in
         subst (λ (f : DrillFault). MovesAs as_failed jobs n before after origin w z x (Err f)) calls.1
-        (stops_by jobs origin x shows plays call.deeds call.room [] both.0 one.passes one.script_is (one.accepted.0, subst (λ k. all_done k call.deeds x.committed ≡ Ok one.accepted.0) (sym (shows.dialect ∙ dialect)) one.accepted.1) z calls.0
+        (stops_by jobs origin x shows plays call.deeds call.room [] both.0 one.passes one.script_is (one.accepted.0, subst (λ k. all_done k call.deeds x.committed ≡ Ok one.accepted.0) (sym (shows.dialect ∙ dialect)) one.accepted.1) one.which z calls.0
         (calls.2 w (session_on x.committed) (shows.dialect ∙ dialect) (stands_first origin w x shows n (none_begun n w.begun shut both.0.0)) one.fits))
 
     -- one that takes the lock
@@ -147,5 +148,5 @@ module _ (n : ℕ) (before after : Standing Came as_locked as_busy) (w : State) 
         = subst (λ k. MakesTurns k m stamp way ends (jobs n) turns source hand x.committed) (sym dialect)
         (subst (λ j. MakesTurns before.dialect m stamp way ends j turns source hand x.committed) (sym (plays.waits none fresh)) both.1) in
         subst (λ (f : DrillFault). MovesAs as_failed jobs n before after origin w z x (Err f)) takes.1
-        (stops_by jobs origin x shows plays (map Locks (opening stamp x.committed)) Ordinary (rest origin.dialect m stamp (place_of hand turns) (both_on x.committed)) both.0 makes.passes makes.script_is (all_taken w.dialect (opening stamp x.committed) x.committed) z takes.0
+        (stops_by jobs origin x shows plays (map Locks (opening stamp x.committed)) Ordinary (rest origin.dialect m stamp (place_of hand turns) (both_on x.committed)) both.0 makes.passes makes.script_is (all_taken w.dialect (opening stamp x.committed) x.committed) (inl refl) z takes.0
         (takes.2 w (session_on x.committed) (shows.dialect ∙ dialect) (stands_first origin w x shows n (none_begun n w.begun shut both.0.0))))

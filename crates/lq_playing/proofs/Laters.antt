@@ -517,7 +517,7 @@ module _ {Key Told T : Type 0} (m : Meaning Key) (stamp : Stamp) (way : T → Di
           }
 
           meets : Meets as_failed origin.dialect jobs origin.used origin.limit n x (fault_of fell.why)
-          meets = record { at = x; is = inl refl; cause = let own = to_call fell.meets.call fell.meets.more fell.meets.next in cause origin w jobs n x x it.h fell.meets.call own.0 refl shows own.1 z Ordinary fell.why fell.meets.by fell.meets.faults }
+          meets = record { at = x; is = inl refl; cause = let own = to_call fell.meets.call fell.meets.more fell.meets.next in cause origin w jobs n x x it.h fell.meets.call own.0 refl shows own.1 z Ordinary fell.why fell.meets.by (inl fell.meets.by) fell.meets.faults }
 
         -- there was no memory, and it took its transaction back
         took_back : ((f : StoreFault) → q.fault ≡ Some f → is_open n z.begun ≡ false → z.dialect ≡ d → (database : Database) → StandsFor d z.committed database → IsHeld stamp database.lock → IsBare stamp database.lock) → TakesBack origin.dialect m stamp n q w s z → MovesAs as_failed jobs n before after origin w z x (Ok tt)

@@ -1,16 +1,23 @@
 -- Whether the lock of a command has a mark, and what is left to the command after a fault.
 use Rattle.std.proofs.Common.{ap, inl, inr, subst, sym, ◌∙◌}
-use Rattle.std.specs.Prelude.{Bool, List, None, Option, Some, [], false, if◌then◌else◌, refl, true, ◌∷◌, ◌≡◌}
+use Rattle.std.specs.Prelude.{Bool, List, None, Option, Some, [], false, if◌then◌else◌, refl, true, ◌++◌, ◌||◌, ◌∷◌, ◌≡◌}
+use Rattle.lq_base.specs.declared.dialect.Dialect.{Dialect}
 use Rattle.lq_base.specs.declared.tracking.Lock.{Lock}
 use Rattle.lq_drill.specs.Faults.{frees, has_bar, last_calls}
+use Rattle.lq_hand.specs.Hand.{AreTurns, IsReady}
 use Rattle.lq_model.specs.declared.fault.StoreFault.{StoreFault}
 use Rattle.lq_playing.specs.Under.{IsPlain, ToCome}
 use Rattle.lq_run.proofs.Resting.{marked_some}
 use Rattle.lq_run.specs.Stands.{IsBare, IsHeld, IsMarked}
+use Rattle.lq_turns.specs.Deed.{Contents}
+use Rattle.lq_turns.specs.Rest.{GivingUp, Inside, Over, Place, if_goes_on, rest, turns_calls}
 use Rattle.lq_turns.specs.Script.{closing}
-use Rattle.lq_turns.specs.Session.{Session}
+use Rattle.lq_turns.specs.Session.{Both, Session, are_accepted, went}
+use Rattle.lq_turns.specs.Set.{Meaning}
+use Rattle.lq_turns.specs.Turn.{made}
 use Rattle.lq_turns.specs.declared.call.Call.{Call}
-use Rattle.lq_turns.specs.declared.call.Call.TheVariants.{Abort}
+use Rattle.lq_turns.specs.declared.call.Call.TheVariants.{Abort, Alone, Begin, Commit, Execute}
+use Rattle.lq_turns.specs.declared.deed.Deed.{Deed}
 use Rattle.lq_turns.specs.declared.stamp.Stamp.{Stamp}
 
 not_true : false ≡ true → ⊥
@@ -39,3 +46,27 @@ next_left stamp (Some why) s script left plain to call calls is = elim to.1 [
   | inl aborts ↦ (frees (has_bar s.committed.lock), to.0 ∙ last_open s (has_bar s.committed.lock) aborts.0 refl ∙ ap (λ c. c ∷ frees (has_bar s.committed.lock)) (head_is (sym aborts.1 ∙ is)))
   | inr closes ↦ ([], to.0 ∙ last_shut s false closes.0 (bare_none stamp s.committed.lock plain closes.2) ∙ ap (λ c. c ∷ []) (head_is (sym closes.1 ∙ is)))
 ]
+
+not_executed : {deed : Deed} → Execute deed ≡ closing → ⊥
+not_executed h = Prim.cc
+
+not_committed : Commit ≡ closing → ⊥
+not_committed h = Prim.cc
+
+not_aborted : Abort ≡ closing → ⊥
+not_aborted h = Prim.cc
+
+-- where the next call frees the lock no transaction is open
+module _ {Key : Type 0} (d : Dialect) (m : Meaning Key) (stamp : Stamp) where
+  shut_inside : (calls : List Call) (opened : Bool) (c : Contents) (others more : List Call) → AreTurns d opened calls → made d calls c ++ others ++ closing ∷ [] ≡ closing ∷ more → opened ≡ false
+  shut_inside [] opened c others more turns is = turns
+  shut_inside (Begin ∷ calls) opened c others more turns is = turns.0
+  shut_inside (Execute deed ∷ calls) opened c others more turns is = absurd (not_executed (head_is is))
+  shut_inside (Commit ∷ calls) opened c others more turns is = absurd (not_committed (head_is is))
+  shut_inside (Abort ∷ calls) opened c others more turns is = absurd turns.0
+  shut_inside (Alone deeds room ∷ calls) opened c others more turns is = absurd turns.0
+
+  pub shut_next : (p : Place Key) (opened : Bool) (x : Both) (more : List Call) → IsReady d opened p → rest d m stamp p x ≡ closing ∷ more → opened ≡ false
+  shut_next (Inside calls goes_on turns) opened x more ready is = shut_inside calls opened x.1 (turns_calls d m stamp (if_goes_on (are_accepted d calls x.1 || goes_on) turns) (went d calls x).0) more ready is
+  shut_next (GivingUp turns) opened x more ready is = absurd (not_aborted (head_is is))
+  shut_next Over opened x more ready is = ready

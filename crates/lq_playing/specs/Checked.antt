@@ -9,6 +9,7 @@ use Rattle.lq_hand.specs.Way.{Way, no_progress}
 use Rattle.lq_hand.specs.declared.hand.Hand.{Hand}
 use Rattle.lq_hand.specs.declared.hand.Phase.TheVariants as phase
 use Rattle.lq_model.specs.Catalogue.{Catalogue}
+use Rattle.lq_model.specs.declared.caller.Room.TheVariants.{Ordinary}
 use Rattle.lq_model.specs.declared.fault.StoreFault.{StoreFault}
 use Rattle.lq_model.specs.declared.fault.StoreFault.TheVariants as fault
 use Rattle.lq_playing.specs.Answers.{as_busy, as_locked, came, failure_of, fault_of, is_failure}
@@ -28,6 +29,7 @@ use Rattle.lq_track.specs.Database.{Database}
 use Rattle.lq_turns.specs.Deed.{all_done}
 use Rattle.lq_turns.specs.Rest.{Turns}
 use Rattle.lq_turns.specs.Schedule.{Job, StandsFor, all_fit}
+use Rattle.lq_turns.specs.Script.{closing}
 use Rattle.lq_turns.specs.Session.{Session, called, session_on}
 use Rattle.lq_turns.specs.Set.{Meaning}
 use Rattle.lq_turns.specs.declared.answer.Answer.{Answer}
@@ -61,6 +63,8 @@ pub record MakesOne (d : Dialect) (job : Work) (report : Report) (call : OneCall
   pub fits : all_fit d call.deeds database ≡ true
   pub accepted : (now : Database) × (all_done d call.deeds database ≡ Ok now)
   pub free : (called d (Alone call.deeds call.room) (session_on database)).committed.lock.locked ≡ false
+  -- only the call that frees the lock may use all of the journal
+  pub which : (call.room ≡ Ordinary) ⊎ (Alone call.deeds call.room ≡ closing)
 
 -- the turn in hand, of which no call is made
 pub record IsInHand (d : Dialect) (stamp : Stamp) (hand : Hand) : Type 0 where

@@ -1,5 +1,5 @@
 -- A command as a player.
-use Rattle.std.proofs.Common.{ap, inl, inr}
+use Rattle.std.proofs.Common.{ap, inl, inr, subst, ◌∙◌}
 use Rattle.std.specs.Option.{option_map}
 use Rattle.std.specs.Prelude.{Bool, None, Ok, Option, Result, Some, false, is_some, true, ℕ, ◌≡◌, ◌≤◌}
 use Rattle.lq_base.specs.declared.dialect.Dialect.{Dialect}
@@ -13,7 +13,7 @@ use Rattle.lq_hand.specs.declared.hand.Hand.{Hand}
 use Rattle.lq_model.specs.declared.fault.StoreFault.{StoreFault}
 use Rattle.lq_playing.specs.Answers.{as_busy, as_failed, as_locked, came, fault_of}
 use Rattle.lq_playing.specs.Checked.{Work}
-use Rattle.lq_playing.specs.Under.{IsPlain, IsUnder}
+use Rattle.lq_playing.specs.Under.{IsPlain, IsUnder, WillAnswer}
 use Rattle.lq_resting.specs.Asking.{asks_open}
 use Rattle.lq_playing.specs.declared.came.Came.{Came}
 use Rattle.lq_playing.specs.declared.came.Report.{Report}
@@ -25,6 +25,7 @@ use Rattle.lq_run.specs.Steps.{is_over, standing}
 use Rattle.lq_run.specs.declared.runner.Runner.{Runner}
 use Rattle.lq_store.specs.Journal.{Crashes, State, is_open}
 use Rattle.lq_turns.specs.Rest.{Turns}
+use Rattle.lq_turns.specs.Schedule.{Holder}
 use Rattle.lq_turns.specs.Set.{Meaning}
 use Rattle.lq_turns.specs.declared.stamp.Stamp.{Stamp}
 use Rattle.lq_turns.specs.declared.stop.Refusal.{Refusal}
@@ -77,6 +78,10 @@ module _ {Key Told T : Type 0} (m : Meaning Key) (left : T → Turns Key) (way :
     owns = IsHeld p.runner.stamp;
     answer = option_map (came (reports p.runner.source)) p.answer;
   }
+
+  -- the fault that it met is what it is to answer
+  pub is_owed : (p : Playing T) (why : DrillFault) (h : Holder Came as_locked as_busy) → (stands p).owes why → (stands p).is_at h → h.answer ≡ as_failed why
+  is_owed p why h owed at = subst (λ f. WillAnswer p.runner.dialect m p.runner.stamp (standing left way p.runner) way ends at.told f h.answer) owed.1 at.answers ∙ ap as_failed owed.2
 
 -- what a step of a player comes to
 pub record Took (session : ℕ) (before after : Standing Came as_locked as_busy) (x y : State) (c e : Crashes) (result : Result (Unit {0}) DrillFault) : Type 0 where

@@ -353,7 +353,7 @@ fn failure_of(fault: DrillFault) -> Answer
 
 impl<T: Checks + Drop> Player for Playing<T> {
     ghost use Rattle.lq_playing.specs.Answers.{as_busy, as_failed, as_locked};
-    ghost use Rattle.lq_playing.specs.Playing.{is_locked, stands};
+    ghost use Rattle.lq_playing.specs.Playing.{is_locked, is_owed, stands};
 
     type Answer = Came;
 
@@ -366,6 +366,8 @@ impl<T: Checks + Drop> Player for Playing<T> {
     ghost standing = { stands T.meaning T.left T.way T.reads T.job T.ends T.reports };
 
     ghost held = { λ player. is_locked player.runner.stamp };
+
+    ghost owed = { is_owed T.meaning T.left T.way T.reads T.job T.ends T.reports };
 
     fn has_answered(&self) -> bool {
         self.answer.is_some()

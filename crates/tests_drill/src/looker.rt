@@ -40,6 +40,8 @@ impl Player for Looker {
 
     ghost held = { λ player lock owned. absurd owned };
 
+    ghost owed = { λ player why holder owes. absurd owes };
+
     fn has_answered(&self) -> bool {
         self.answer.is_some()
     }
