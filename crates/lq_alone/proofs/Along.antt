@@ -7,16 +7,17 @@ use Rattle.std.specs.Prelude.{Bool, Err, List, None, Ok, Option, Some, [], false
 use Rattle.lq_base.specs.declared.tracking.Lock.{Lock}
 use Rattle.lq_drill.specs.Drill.{IsNew}
 use Rattle.lq_drill.specs.Faults.{answer_of, Meets, Steps, Grows, entries_of, entry_of}
-use Rattle.lq_drill.specs.Player.{EndsBy, Standing, LeavesAll, LeftInStep, MakesNone, Moves, MovesAs, MovesSafely, refusal}
+use Rattle.lq_drill.specs.Player.{EndsBy, GoesOn, Standing, LeavesAll, LeftInStep, MakesNone, Moves, MovesAs, MovesSafely, refusal}
 use Rattle.lq_drill.specs.declared.fault.DrillFault.{DrillFault}
 use Rattle.lq_alone.proofs.Course.{steps}
+use Rattle.lq_alone.proofs.Since.{holding, unwritten_yet}
 use Rattle.lq_drill.proofs.Machines.{own_number}
 use Rattle.lq_drill.proofs.Crashed.{leave_both, leave_from, leave_none}
-use Rattle.lq_alone.specs.One.{CameTo, Follows, LeftAlone, MetAt, Stops, IsCut, StandsAt}
+use Rattle.lq_alone.specs.One.{AnswersOwn, CameTo, Follows, LeftAlone, MetAt, Stops, IsCut, StandsAt}
 use Rattle.lq_outside.specs.Forms.{Rose}
 use Rattle.lq_store.specs.Journal.{Crashes, CrashesLeave, Entry, State, Transaction, is_open}
 use Rattle.lq_track.specs.Database.{Database}
-use Rattle.lq_turns.specs.Schedule.{StandsFor, Job, Machine, has_begun, start}
+use Rattle.lq_turns.specs.Schedule.{Holder, StandsFor, Job, Machine, has_begun, start}
 use Rattle.lq_turns.specs.declared.call.Call.{Call}
 
 pub rose_later : (a b c : ℕ) → a ≤ b → Rose b c → Rose a c
@@ -83,13 +84,14 @@ module _ (Answer : Type 0) (locked : Lock → Answer) (busy : ℕ → Answer) (f
     still_steps (inl is) = inl is
     still_steps (inr f) = inr (still f.0, f.1)
 
-  met_wider : (met more : Type 0) (still : met → more) (why : DrillFault) → MetAt failed job origin database met why → MetAt failed job origin database more why
-  met_wider met more still why m = record { steps = m.steps; at = m.at; came = wider met more still m.steps m.at m.came; meets = m.meets }
+  -- and with a machine that has the same entries
+  met_wider : (met more : Type 0) (still : met → more) (now next : Runs) (why : DrillFault) → (AnswersOwn failed job database → next.entries ≡ now.entries) → MetAt failed job origin database met now why → MetAt failed job origin database more next why
+  met_wider met more still now next why same m = record { steps = m.steps; at = m.at; came = wider met more still m.steps m.at m.came; meets = m.meets; since = λ own. same own ∙ m.since own }
 
   -- the machine stands at one of its places
   pub stands : (met : Type 0) (k : ℕ) (x : Runs) → Came met k x → StandsAt failed origin.dialect job database met x
   stands met zero x is = inl is
-  stands met (suc k) x came = steps Answer locked busy failed origin.dialect job database met came.0 x (stands met k came.0 came.1) came.3
+  stands met (suc k) x came = inr (steps Answer locked busy failed origin.dialect job database met came.0 x (stands met k came.0 came.1) came.3)
 
   -- before its first step
   pub begun_with : (r : Runner) → origin.live ≡ true → origin.begun ≡ None → IsNew 1 r → job ≡ r.job → StandsFor origin.dialect origin.committed database → Followed r origin
@@ -114,17 +116,22 @@ module _ (Answer : Type 0) (locked : Lock → Answer) (busy : ℕ → Answer) (f
       waits = λ none waits. own;
       goes_on = λ none begun. never_both r.begun begun new.begun;
     };
-    owed = λ why owes. absurd (new.owes why owes);
+    owed = λ none why owes. absurd (new.owes why owes);
   }
 
   -- a step
   module _ (old new : Runner) (w z : State) (dialect : origin.dialect ≡ old.dialect) (stays : old.faulted ≡ true → new.faulted ≡ true) (f : Followed old w) where
-    due : (why : DrillFault) → old.owes why ⊎ Meets failed origin.dialect jobs origin.used origin.limit 1 f.now why → MetAt failed job origin database (new.faulted ≡ true) why
-    due why (inl owes) = met_wider (old.faulted ≡ true) (new.faulted ≡ true) stays why (f.owed why owes)
-    due why (inr meets) = record { steps = f.steps; at = f.now; came = wider (old.faulted ≡ true) (new.faulted ≡ true) stays f.steps f.now f.came; meets = meets }
+    -- what it owes, or meets in the step from here, to one with these entries
+    due : old.answer ≡ None → (y : Runs) (why : DrillFault) → (AnswersOwn failed job database → y.entries ≡ f.now.entries) → old.owes why ⊎ Meets failed origin.dialect jobs origin.used origin.limit 1 f.now why → MetAt failed job origin database (new.faulted ≡ true) y why
+    due none y why same (inl owes) = met_wider (old.faulted ≡ true) (new.faulted ≡ true) stays f.now y why same (f.owed none why owes)
+    due none y why same (inr meets) = record { steps = f.steps; at = f.now; came = wider (old.faulted ≡ true) (new.faulted ≡ true) stays f.steps f.now f.came; meets = meets; since = same }
 
-    pub goes_on : Moves failed 1 old new w (Ok tt) z → EndsBy failed new (Ok tt) → Followed new z
-    goes_on moves ends = by (moves jobs origin f.now dialect f.shows f.plays) where
+    -- where it stands before the step
+    here : StandsAt failed origin.dialect job database (new.faulted ≡ true) f.now
+    here = stands (new.faulted ≡ true) f.steps f.now (wider (old.faulted ≡ true) (new.faulted ≡ true) stays f.steps f.now f.came)
+
+    pub goes_on : old.answer ≡ None → ((why : DrillFault) (h : Holder Answer locked busy) → new.owes why → new.is_at h → h.answer ≡ failed why) → Moves failed 1 old new w (Ok tt) z → EndsBy failed new (Ok tt) → Followed new z
+    goes_on none answers moves ends = by (moves jobs origin f.now dialect f.shows f.plays) where
       by : MovesAs failed jobs 1 old new origin w z f.now (Ok tt) → Followed new z
       by it = record {
         steps = suc f.steps;
@@ -133,8 +140,14 @@ module _ (Answer : Type 0) (locked : Lock → Answer) (busy : ℕ → Answer) (f
         going = λ why is. ends why (sym it.0.2.plays.answer ∙ is);
         shows = it.0.2.shows;
         plays = it.0.2.plays;
-        owed = λ why owes. due why (it.1 why owes);
-      }
+        owed = λ yet why owes. due none it.0.0 why (same yet why owes) (it.1 why owes);
+      } where
+        -- while it is the holder it has written nothing since
+        same : new.answer ≡ None → (why : DrillFault) → new.owes why → AnswersOwn failed job database → it.0.0.entries ≡ f.now.entries
+        same yet why owes own =
+            let held = holding Answer locked busy failed origin.dialect job database (new.faulted ≡ true) it.0.0 (steps Answer locked busy failed origin.dialect job database (new.faulted ≡ true) f.now it.0.0 here it.0.1) (it.0.2.plays.answer ∙ yet) in
+            unwritten_yet Answer locked busy failed origin.dialect job database (new.faulted ≡ true) own why f.now it.0.0 here (f.plays.answer ∙ none) it.0.1 held.holder held.held
+            (answers why held.holder owes (subst (λ o. GoesOn new o it.0.0.committed.lock) held.held (it.0.2.plays.goes_on yet (sym (it.0.2.plays.begun yet) ∙ held.begun))))
 
     pub stops_at : (why : DrillFault) → old.answer ≡ None → Moves failed 1 old new w (Err why) z → EndsBy failed new (Err why) → Grows w z → Stops failed job origin database new z why
     stops_at why none moves ends grows = by (moves jobs origin f.now dialect f.shows f.plays) where
@@ -152,7 +165,7 @@ module _ (Answer : Type 0) (locked : Lock → Answer) (busy : ℕ → Answer) (f
         brings = it.0.2;
         same = (grows.dialect, grows.limit);
         answer = ends.0;
-        met = due why it.1;
+        met = due none f.now why (λ own. refl) it.1;
         rests = it.2;
       }
 

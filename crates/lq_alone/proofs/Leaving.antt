@@ -1,7 +1,7 @@
 -- What one runner leaves, and why its journal is full.
 use Rattle.std.proofs.Common.{ap, append-nil, append_assoc, inl, inr, subst, sym, ◌∙◌}
 use Rattle.std.specs.List.{list_any}
-use Rattle.std.specs.Prelude.{Bool, List, None, Option, Some, [], false, if◌then◌else◌, refl, true, ℕ, ◌+◌, ◌==◌, ◌++◌, ◌∷◌, ◌≡◌}
+use Rattle.std.specs.Prelude.{Bool, List, None, Option, Some, [], false, if◌then◌else◌, refl, true, ℕ, ◌+◌, ◌==◌, ◌++◌, ◌∷◌, ◌≡◌, ◌⊎◌}
 use Rattle.lq_base.specs.declared.dialect.Dialect.{Dialect}
 use Rattle.lq_base.specs.declared.tracking.Lock.{Lock}
 use Rattle.lq_drill.proofs.FreedOnce.{closing_frees, frees_lock}
@@ -29,7 +29,7 @@ use Rattle.lq_turns.specs.declared.call.Call.{Call}
 use Rattle.lq_turns.specs.declared.call.Call.TheVariants.{Abort}
 
 -- the call that frees the lock appends its entry
-frees_entries : (d : Dialect) (s : Session) → s.begun ≡ [] → (called d closing s).entries ≡ s.entries ++ freed
+pub frees_entries : (d : Dialect) (s : Session) → s.begun ≡ [] → (called d closing s).entries ≡ s.entries ++ freed
 frees_entries d s idle = adds_up d closing s ∙ ap (λ es. s.entries ++ es) (closing_frees d s idle)
 
 pub one_frees : (Answer : Type 0) → OneFrees Answer
@@ -39,14 +39,14 @@ one_frees Answer as_locked busy failed d job database x p = elim p.by [
 ]
 
 -- a name without a bar has no mark
-no_mark : (lock : Lock) → has_bar lock ≡ false → has_mark lock ≡ false
+pub no_mark : (lock : Lock) → has_bar lock ≡ false → has_mark lock ≡ false
 no_mark lock none = by lock.by none where
   by : (o : Option (List ℕ)) → elim o as (λ _. Bool) [ Some by ↦ list_any (λ b. b == 124) by | None ↦ false ] ≡ false → elim o as (λ _. Bool) [ Some by ↦ is_mark by | None ↦ false ] ≡ false
   by None is = refl
   by (Some who) is = bare_names_have_no_mark who is
 
 -- a front of the entries of the first calls
-front_left : (d : Dialect) (calls made rest : List Call) (database : Database) (front more : Journal) → calls ≡ made ++ rest → (all_called d made (session_on database)).entries ≡ front ++ more → IsLeft d calls database [] front
+pub front_left : (d : Dialect) (calls made rest : List Call) (database : Database) (front more : Journal) → calls ≡ made ++ rest → (all_called d made (session_on database)).entries ≡ front ++ more → IsLeft d calls database [] front
 front_left d calls made rest database front more is entries =
     let s : Session = all_called d made (session_on database) in
     let grows = calls_grow d rest s in
@@ -55,7 +55,7 @@ front_left d calls made rest database front more is entries =
     (ap (λ (t : Session). t.entries) (calls_both d made rest (session_on database)) ∙ grows.is ∙ ap (λ es. es ++ grows.more) entries ∙ append_assoc front more grows.more))
 
 -- those, and then the entry that frees a lock without a mark
-freed_left : (d : Dialect) (calls made rest : List Call) (database : Database) → calls ≡ made ++ rest → has_mark (all_called d made (session_on database)).committed.lock ≡ false
+pub freed_left : (d : Dialect) (calls made rest : List Call) (database : Database) → calls ≡ made ++ rest → has_mark (all_called d made (session_on database)).committed.lock ≡ false
     → IsLeft d calls database [] ((all_called d made (session_on database)).entries ++ freed)
 freed_left d calls made rest database is unmarked =
     let s : Session = all_called d made (session_on database) in
@@ -95,14 +95,14 @@ module _ (Answer : Type 0) (as_locked : Lock → Answer) (busy : ℕ → Answer)
   ran made = after failed d job database made
 
   -- the entries of a session that met a fault are those of its calls
-  same_entries : (s : Session) (m : MetFault failed d job database s) → s.entries ≡ (ran (m.cut.first ∷ m.cut.more)).entries
+  pub same_entries : (s : Session) (m : MetFault failed d job database s) → s.entries ≡ (ran (m.cut.first ∷ m.cut.more)).entries
   same_entries s m = elim m.from [ inl is ↦ ap (λ (t : Session). t.entries) is | inr is ↦ ap (λ (t : Session). t.entries) is ]
 
   -- and so is what is committed
   same_committed : (s : Session) (m : MetFault failed d job database s) → s.committed ≡ (ran (m.cut.first ∷ m.cut.more)).committed
   same_committed s m = elim m.from [ inl is ↦ ap (λ (t : Session). t.committed) is | inr is ↦ ap (λ (t : Session). t.committed) is ]
 
-  unmarked_there : (s : Session) (m : MetFault failed d job database s) → has_bar s.committed.lock ≡ false → has_mark (ran (m.cut.first ∷ m.cut.more)).committed.lock ≡ false
+  pub unmarked_there : (s : Session) (m : MetFault failed d job database s) → has_bar s.committed.lock ≡ false → has_mark (ran (m.cut.first ∷ m.cut.more)).committed.lock ≡ false
   unmarked_there s m is = ap (λ (e : Database). has_mark e.lock) (sym (same_committed s m)) ∙ no_mark s.committed.lock is
 
   leaves : (met : Type 0) (x : Runs) → StandsAt failed d job database met x → (front more : Journal) → x.entries ≡ front ++ more → IsLeft d (job.script database) database [] front
@@ -124,143 +124,184 @@ module _ (Answer : Type 0) (as_locked : Lock → Answer) (busy : ℕ → Answer)
   -- why the journal is full
 
   module _ (filled limit used next : ℕ) where
-    abbrev Full : Type 0
-    Full = IsFullBy d (job.script database) database filled limit used next
+    -- the entries of the call have no room behind those of the session
+    pub record LacksRoom (call : Call) (s : Session) : Type 0 where
+      pub used_is : used ≡ filled + size_of_all (entries_of d s.entries)
+      pub next_is : next ≡ size_of_all (entries_of d (appended d call s))
+      pub full : is_full (end_of (room_of call) limit) used (entries_of d (appended d call s)) ≡ true
+      pub which : (room_of call ≡ Ordinary) ⊎ ((call ≡ closing) × (s.begun ≡ []))
+
+    -- the next call of the script, behind these entries
+    pub record StopsScript (es : Journal) (call : Call) : Type 0 where
+      pub made : List Call
+      pub rest : List Call
+      pub is : job.script database ≡ made ++ call ∷ rest
+      pub wrote : es ≡ (ran made).entries
+      pub lacks : LacksRoom call (ran made)
+
+    -- or the one that frees a lock without a mark, of a session that met another fault
+    pub record StopsFreeing (es : Journal) (call : Call) : Type 0 where
+      pub session : Session
+      pub met : MetFault failed d job database session
+      pub unmarked : has_bar session.committed.lock ≡ false
+      pub shut : session.is_open ≡ false
+      pub frees : call ≡ closing
+      pub wrote : es ≡ session.entries
+      pub lacks : LacksRoom closing session
+
+    abbrev pub FullAt : Journal → Call → Type 0
+    FullAt es call = StopsScript es call ⊎ StopsFreeing es call
 
     -- of the entries of a call that writes none
     none_full : (A : Type 0) (end n : ℕ) → is_full end n [] ≡ true → A
     none_full A end n is = cc
 
     -- the call that is left to one that gave up
-    giving_full : (s : Session) (m : MetFault failed d job database s) (call : Call) (rest : List Call) (calls : List Call) → last_calls s ≡ calls → calls ≡ call ∷ rest
-        → used ≡ filled + size_of_all (entries_of d s.entries) → next ≡ size_of_all (entries_of d (appended d call s)) → is_full (end_of (room_of call) limit) used (entries_of d (appended d call s)) ≡ true → Full
-    giving_full s m call rest calls left is used_is next_is full = by s.is_open (has_bar s.committed.lock) refl refl (left ∙ is) where
-      by : (opened marked : Bool) → s.is_open ≡ opened → has_bar s.committed.lock ≡ marked → (if opened then Abort ∷ frees marked else frees marked) ≡ call ∷ rest → Full
-      by true marked open_is mark_is same = none_full Full (end_of Ordinary limit) used (subst (λ c. is_full (end_of (room_of c) limit) used (entries_of d (appended d c s)) ≡ true) (aborts same) full) where
+    giving_full : (s : Session) (m : MetFault failed d job database s) (call : Call) (rest : List Call) (calls : List Call) → last_calls s ≡ calls → calls ≡ call ∷ rest → LacksRoom call s → FullAt s.entries call
+    giving_full s m call rest calls left is lacks = by s.is_open (has_bar s.committed.lock) refl refl (left ∙ is) where
+      by : (opened marked : Bool) → s.is_open ≡ opened → has_bar s.committed.lock ≡ marked → (if opened then Abort ∷ frees marked else frees marked) ≡ call ∷ rest → FullAt s.entries call
+      by true marked open_is mark_is same = none_full (FullAt s.entries call) (end_of Ordinary limit) used (subst (λ c. is_full (end_of (room_of c) limit) used (entries_of d (appended d c s)) ≡ true) (aborts same) lacks.full) where
         aborts : Abort ∷ frees marked ≡ call ∷ rest → call ≡ Abort
         aborts same = cc
       by false true open_is mark_is same = cc
       by false false open_is mark_is same =
-          let one : closing ≡ call = cc in
-          let wrote : appended d call s ≡ freed = ap (λ c. appended d c s) (sym one) ∙ closing_frees d s (m.idle open_is) in
-          inr (record {
-            cut = m.cut;
-            unmarked = unmarked_there s m mark_is;
-            used_is = used_is ∙ ap (λ es. filled + size_of_all (entries_of d es)) (same_entries s m);
-            next_is = next_is ∙ ap (λ es. size_of_all (entries_of d es)) wrote;
-            full = subst (λ es. is_full (end_of Release limit) used (entries_of d es) ≡ true) wrote (subst (λ c. is_full (end_of (room_of c) limit) used (entries_of d (appended d call s)) ≡ true) (sym one) full);
-          })
-
-    -- the next call of the script
-    script_full : (made rest : List Call) (call : Call) (entries : Journal) → job.script database ≡ made ++ call ∷ rest → entries ≡ (ran made).entries
-        → used ≡ filled + size_of_all (entries_of d entries) → next ≡ size_of_all (entries_of d (appended d call (ran made))) → is_full (end_of (room_of call) limit) used (entries_of d (appended d call (ran made))) ≡ true → Full
-    script_full made rest call entries is same used_is next_is full = inl (record {
-      made = made;
-      call = call;
-      rest = rest;
-      is = is;
-      used_is = used_is ∙ ap (λ es. filled + size_of_all (entries_of d es)) same;
-      next_is = next_is;
-      full = full;
-    })
+          let one : call ≡ closing = cc in
+          inr (record { session = s; met = m; unmarked = mark_is; shut = open_is; frees = one; wrote = refl; lacks = subst (λ c. LacksRoom c s) one lacks })
 
     abbrev jobs : ℕ → Job Answer as_locked busy
     jobs n = job
 
+    abbrev NoRoom : Runs → Type 0
+    NoRoom x = HasNoRoom failed d jobs filled limit 1 x used next
+
+    abbrev hold : Session → List Call → Answer → Holder Answer as_locked busy
+    hold s rest a = record { runner = 1; session = s; rest = rest; answer = a }
+
+    -- its call, in its session
+    lacks_of : (x : Runs) (f : NoRoom x) (s : Session) → f.session ≡ s → x.entries ≡ s.entries → LacksRoom f.call s
+    lacks_of x f s is es = record {
+      used_is = f.used_is ∙ ap (λ (l : Journal). filled + size_of_all (entries_of d l)) es;
+      next_is = f.next_is ∙ ap (λ (t : Session). size_of_all (entries_of d (appended d f.call t))) is;
+      full = subst (λ (t : Session). is_full (end_of (room_of f.call) limit) used (entries_of d (appended d f.call t)) ≡ true) is f.full;
+      which = subst (λ (t : Session). (room_of f.call ≡ Ordinary) ⊎ ((f.call ≡ closing) × (t.begun ≡ []))) is f.which;
+    }
+
     -- where it stands under way, the next call is the first of those to come
-    way_full : (s : Session) (call : Call) (rest : List Call) (a : Answer) (older : List ℕ)
-        → (used ≡ filled + size_of_all (entries_of d s.entries) → next ≡ size_of_all (entries_of d (appended d call s)) → is_full (end_of (room_of call) limit) used (entries_of d (appended d call s)) ≡ true → Full)
-        → HasNoRoom failed d jobs filled limit 1 (way s (call ∷ rest) a older) used next → Full
-    way_full s call rest a older told f = elim f.is_next [
+    way_full : (s : Session) (call : Call) (rest : List Call) (a : Answer) (older : List ℕ) (f : NoRoom (way s (call ∷ rest) a older)) → (f.call ≡ call) × LacksRoom f.call s
+    way_full s call rest a older f = elim f.is_next [
       | inl n ↦ own n.0 n.1 n.2 n.3 n.4
       | inr n ↦ not_first n.1
     ] where
-      own : (h : Holder Answer as_locked busy) (others : List Call) → Some (record { runner = 1; session = s; rest = call ∷ rest; answer = a }) ≡ Some h → h.rest ≡ f.call ∷ others → f.session ≡ h.session → Full
+      own : (h : Holder Answer as_locked busy) (others : List Call) → Some (hold s (call ∷ rest) a) ≡ Some h → h.rest ≡ f.call ∷ others → f.session ≡ h.session → (f.call ≡ call) × LacksRoom f.call s
       own h others held left at =
-          let same : h ≡ record { runner = 1; session = s; rest = call ∷ rest; answer = a } = cc in
+          let same : h ≡ hold s (call ∷ rest) a = cc in
           let is : f.session ≡ s = at ∙ ap (λ (k : Holder Answer as_locked busy). k.session) same in
           let one : call ∷ rest ≡ f.call ∷ others = sym (ap (λ (k : Holder Answer as_locked busy). k.rest) same) ∙ left in
-          let it : f.call ≡ call = cc in
-          told f.used_is (f.next_is ∙ ap (λ c. size_of_all (entries_of d (appended d c f.session))) it ∙ ap (λ t. size_of_all (entries_of d (appended d call t))) is)
-          (subst (λ t. is_full (end_of (room_of call) limit) used (entries_of d (appended d call t)) ≡ true) is (subst (λ c. is_full (end_of (room_of c) limit) used (entries_of d (appended d c f.session)) ≡ true) it f.full))
+          (cc, lacks_of (way s (call ∷ rest) a older) f s is refl)
 
-      not_first : makes_first Answer as_locked busy d jobs 1 (way s (call ∷ rest) a older) ≡ true → Full
+      not_first : makes_first Answer as_locked busy d jobs 1 (way s (call ∷ rest) a older) ≡ true → (f.call ≡ call) × LacksRoom f.call s
       not_first is = cc
 
-    over_full : (s : Session) (a : Answer) (older : List ℕ) → HasNoRoom failed d jobs filled limit 1 (over s a older) used next → Full
-    over_full s a older f = elim f.is_next [
+    over_full : (s : Session) (a : Answer) (older : List ℕ) (A : Type 0) → NoRoom (over s a older) → A
+    over_full s a older A f = elim f.is_next [
       | inl n ↦ none n.0 n.2
       | inr n ↦ not_first n.1
     ] where
-      none : (h : Holder Answer as_locked busy) → (let o : Option (Holder Answer as_locked busy) = None in o) ≡ Some h → Full
+      none : (h : Holder Answer as_locked busy) → (let o : Option (Holder Answer as_locked busy) = None in o) ≡ Some h → A
       none h is = cc
 
-      not_first : makes_first Answer as_locked busy d jobs 1 (over s a older) ≡ true → Full
+      not_first : makes_first Answer as_locked busy d jobs 1 (over s a older) ≡ true → A
       not_first is = cc
 
-    start_full : HasNoRoom failed d jobs filled limit 1 (start Answer as_locked busy database) used next → Full
+    start_full : (f : NoRoom (start Answer as_locked busy database)) → FullAt [] f.call
     start_full f = elim f.is_next [
       | inl n ↦ none n.0 n.2
       | inr n ↦ first n.0 n.2 n.3
     ] where
-      none : (h : Holder Answer as_locked busy) → (let o : Option (Holder Answer as_locked busy) = None in o) ≡ Some h → Full
+      none : (h : Holder Answer as_locked busy) → (let o : Option (Holder Answer as_locked busy) = None in o) ≡ Some h → FullAt [] f.call
       none h is = cc
 
-      first : (rest : List Call) → job.script database ≡ f.call ∷ rest → f.session ≡ session_on database → Full
-      first rest is at = script_full [] rest f.call [] is refl f.used_is (f.next_is ∙ ap (λ t. size_of_all (entries_of d (appended d f.call t))) at) (subst (λ t. is_full (end_of (room_of f.call) limit) used (entries_of d (appended d f.call t)) ≡ true) at f.full)
+      first : (rest : List Call) → job.script database ≡ f.call ∷ rest → f.session ≡ session_on database → FullAt [] f.call
+      first rest is at = inl (record { made = []; rest = rest; is = is; wrote = refl; lacks = lacks_of (start Answer as_locked busy database) f (session_on database) at refl })
 
     -- a session that met a fault, and what is left to it
     left_full : (s : Session) (m : MetFault failed d job database s) (why : DrillFault) (calls : List Call) → last_calls s ≡ calls → (rest : List Call) (a : Answer) (older : List ℕ)
-        → HasNoRoom failed d jobs filled limit 1 (left_with failed calls why (record { runner = 1; session = s; rest = rest; answer = a }) (way s rest a older)) used next → Full
-    left_full s m why [] left rest a older f = over_full s (failed why) (1 ∷ older) f
-    left_full s m why (call ∷ calls) left rest a older f = way_full s call calls (failed why) older (giving_full s m call calls (call ∷ calls) left refl) f
+        → (f : NoRoom (left_with failed calls why (hold s rest a) (way s rest a older))) → FullAt s.entries f.call
+    left_full s m why [] left rest a older f = over_full s (failed why) (1 ∷ older) (FullAt s.entries f.call) f
+    left_full s m why (call ∷ calls) left rest a older f =
+        let it = way_full s call calls (failed why) older f in
+        subst (FullAt s.entries) (sym it.0) (giving_full s m call calls (call ∷ calls) left refl (subst (λ c. LacksRoom c s) it.0 it.1))
 
-    given_up_full : (s : Session) → ((s.is_open ≡ false → s.begun ≡ []) → MetFault failed d job database s) → (rest : List Call) (a : Answer) (older : List ℕ) (other : DrillFault) (h : Holder Answer as_locked busy)
-        → Some (record { runner = 1; session = s; rest = rest; answer = a }) ≡ Some h → (h.session.is_open ≡ false → h.session.begun ≡ []) → HasNoRoom failed d jobs filled limit 1 (gives_up failed other h (way s rest a older)) used next → Full
-    given_up_full s m rest a older other h held idle f =
-        let same : h ≡ record { runner = 1; session = s; rest = rest; answer = a } = cc in
-        left_full s (m (subst (λ (k : Holder Answer as_locked busy). k.session.is_open ≡ false → k.session.begun ≡ []) same idle)) other (last_calls s) refl rest a older
-        (subst (λ (k : Holder Answer as_locked busy). HasNoRoom failed d jobs filled limit 1 (gives_up failed other k (way s rest a older)) used next) same f)
+    -- what a machine tells of its next call
+    abbrev Tells : Runs → Type 0
+    Tells x = (f : NoRoom x) → FullAt x.entries f.call
 
-    meets_way : (s : Session) (call : Call) (rest : List Call) (a : Answer) (older : List ℕ) (x : Runs) → x ≡ way s (call ∷ rest) a older
-        → (used ≡ filled + size_of_all (entries_of d s.entries) → next ≡ size_of_all (entries_of d (appended d call s)) → is_full (end_of (room_of call) limit) used (entries_of d (appended d call s)) ≡ true → Full)
-        → ((s.is_open ≡ false → s.begun ≡ []) → MetFault failed d job database s) → Meets failed d jobs filled limit 1 x (fault.Full used next) → Full
-    meets_way s call rest a older x is told m f = elim f.is [
-      | inl at ↦ way_full s call rest a older told (subst (λ (w : Runs). HasNoRoom failed d jobs filled limit 1 w used next) (at ∙ is) f.cause)
-      | inr p ↦ later p.0 p.1 p.2 p.3 p.4
-    ] where
-      later : (other : DrillFault) (h : Holder Answer as_locked busy) → held_by 1 x.holder ≡ Some h → (h.session.is_open ≡ false → h.session.begun ≡ []) → f.at ≡ gives_up failed other h x → Full
-      later other h held idle at = given_up_full s m (call ∷ rest) a older other h (subst (λ (w : Runs). held_by 1 w.holder ≡ Some h) is held) idle
-          (subst (λ (w : Runs). HasNoRoom failed d jobs filled limit 1 (gives_up failed other h w) used next) is (subst (λ (w : Runs). HasNoRoom failed d jobs filled limit 1 w used next) at f.cause))
+    gave_up_full : (s : Session) → ((s.is_open ≡ false → s.begun ≡ []) → MetFault failed d job database s) → (rest : List Call) (a : Answer) (older : List ℕ) (other : DrillFault) (h : Holder Answer as_locked busy)
+        → Some (hold s rest a) ≡ Some h → (h.session.is_open ≡ false → h.session.begun ≡ []) → (f : NoRoom (gives_up failed other h (way s rest a older))) → FullAt s.entries f.call
+    gave_up_full s m rest a older other h held idle =
+        let same : h ≡ hold s rest a = cc in
+        subst (λ (k : Holder Answer as_locked busy). (f : NoRoom (gives_up failed other k (way s rest a older))) → FullAt s.entries f.call) (sym same)
+        (left_full s (m (subst (λ (k : Holder Answer as_locked busy). k.session.is_open ≡ false → k.session.begun ≡ []) same idle)) other (last_calls s) refl rest a older)
 
-    meets_none : (x : Runs) → x.holder ≡ None → (HasNoRoom failed d jobs filled limit 1 x used next → Full) → Meets failed d jobs filled limit 1 x (fault.Full used next) → Full
-    meets_none x none told f = elim f.is [
-      | inl at ↦ told (subst (λ (w : Runs). HasNoRoom failed d jobs filled limit 1 w used next) at f.cause)
+    abbrev MeetsFull : Runs → Type 0
+    MeetsFull x = Meets failed d jobs filled limit 1 x (fault.Full used next)
+
+    -- by the machine at which the fault was met
+    at_full : (es : Journal) (x : Runs) (m : MeetsFull x) (at : Runs) → m.at ≡ at → ((f : NoRoom at) → FullAt es f.call) → FullAt es m.cause.call
+    at_full es x m at is tells = subst (λ (w : Runs). (f : NoRoom w) → FullAt es f.call) (sym is) tells m.cause
+
+    meets_way : (s : Session) (call : Call) (rest : List Call) (a : Answer) (older : List ℕ) → (LacksRoom call s → FullAt s.entries call) → ((s.is_open ≡ false → s.begun ≡ []) → MetFault failed d job database s) → (m : MeetsFull (way s (call ∷ rest) a older)) → FullAt s.entries m.cause.call
+    meets_way s call rest a older told has m = elim m.is [
+      | inl at ↦ at_full s.entries (way s (call ∷ rest) a older) m (way s (call ∷ rest) a older) at (λ f. let it = way_full s call rest a older f in subst (FullAt s.entries) (sym it.0) (told (subst (λ c. LacksRoom c s) it.0 it.1)))
+      | inr p ↦ at_full s.entries (way s (call ∷ rest) a older) m (gives_up failed p.0 p.1 (way s (call ∷ rest) a older)) p.4 (gave_up_full s has (call ∷ rest) a older p.0 p.1 p.2 p.3)
+    ]
+
+    meets_none : (x : Runs) → x.holder ≡ None → Tells x → (m : MeetsFull x) → FullAt x.entries m.cause.call
+    meets_none x none told m = elim m.is [
+      | inl at ↦ at_full x.entries x m x at told
       | inr p ↦ no p.1 (subst (λ (o : Option (Holder Answer as_locked busy)). held_by 1 o ≡ Some p.1) none p.2)
     ] where
-      no : (h : Holder Answer as_locked busy) → (let o : Option (Holder Answer as_locked busy) = None in o) ≡ Some h → Full
+      no : (h : Holder Answer as_locked busy) → (let o : Option (Holder Answer as_locked busy) = None in o) ≡ Some h → FullAt x.entries m.cause.call
       no h is = cc
 
-    meets_over : (s : Session) (a : Answer) (older : List ℕ) (x : Runs) → x ≡ over s a older → Meets failed d jobs filled limit 1 x (fault.Full used next) → Full
-    meets_over s a older x is f = meets_none x (ap (λ (w : Runs). w.holder) is) (λ full. over_full s a older (subst (λ (w : Runs). HasNoRoom failed d jobs filled limit 1 w used next) is full)) f
+    abbrev Meet : Runs → Type 0
+    Meet x = (m : MeetsFull x) → FullAt x.entries m.cause.call
 
-    is_full_by : (met : Type 0) (x : Runs) → StandsAt failed d job database met x → Meets failed d jobs filled limit 1 x (fault.Full used next) → Full
-    is_full_by met x (inl is) f = meets_none x (ap (λ (w : Runs). w.holder) is) (λ full. start_full (subst (λ (w : Runs). HasNoRoom failed d jobs filled limit 1 w used next) is full)) f
-    is_full_by met x (inr (inl p)) f = meets_over (session_on database) p.answer p.ended.0 x p.ended.1 f
-    is_full_by met x (inr (inr (inl p))) f =
-        meets_way (ran (p.cut.first ∷ p.cut.more)) p.cut.next p.cut.rest (job.answer database) p.older x p.is
-        (script_full (p.cut.first ∷ p.cut.more) p.cut.rest p.cut.next (ran (p.cut.first ∷ p.cut.more)).entries p.cut.is refl)
-        (λ idle. record { passes = p.passes; cut = p.cut; why = fault.OutOfMemory; from = inl refl; idle = idle }) f
-    is_full_by met x (inr (inr (inr (inl p)))) f = meets_over (ran (job.script database)) (job.answer database) p.ended.0 x p.ended.1 f
-    is_full_by met x (inr (inr (inr (inr (inl q))))) f =
+    meets_over : (s : Session) (a : Answer) (older : List ℕ) → Meet (over s a older)
+    meets_over s a older = meets_none (over s a older) refl (λ f. over_full s a older (FullAt s.entries f.call) f)
+
+    pub full_at : (met : Type 0) (x : Runs) → StandsAt failed d job database met x → Meet x
+    full_at met x (inl is) = subst Meet (sym is) (meets_none (start Answer as_locked busy database) refl start_full)
+    full_at met x (inr (inl p)) = subst Meet (sym p.ended.1) (meets_over (session_on database) p.answer p.ended.0)
+    full_at met x (inr (inr (inl p))) = subst Meet (sym p.is)
+        (meets_way (ran (p.cut.first ∷ p.cut.more)) p.cut.next p.cut.rest (job.answer database) p.older (λ lacks. inl (record { made = p.cut.first ∷ p.cut.more; rest = p.cut.rest; is = p.cut.is; wrote = refl; lacks = lacks }))
+        (λ idle. record { passes = p.passes; cut = p.cut; why = fault.OutOfMemory; from = inl refl; idle = idle }))
+    full_at met x (inr (inr (inr (inl p)))) = subst Meet (sym p.ended.1) (meets_over (ran (job.script database)) (job.answer database) p.ended.0)
+    full_at met x (inr (inr (inr (inr (inl q))))) =
         let p = q.1 in
-        meets_way p.session p.last p.lasts (failed p.met.why) p.older x p.is (giving_full p.session p.met p.last p.lasts (p.last ∷ p.lasts) p.to_come refl) (λ idle. p.met) f
-    is_full_by met x (inr (inr (inr (inr (inr q))))) f =
+        subst Meet (sym p.is) (meets_way p.session p.last p.lasts (failed p.met.why) p.older (giving_full p.session p.met p.last p.lasts (p.last ∷ p.lasts) p.to_come refl) (λ idle. p.met))
+    full_at met x (inr (inr (inr (inr (inr q))))) =
         let p = q.1 in
         elim p.by [
-          | inl is ↦ meets_over p.session (failed p.met.why) is.1.0 x is.1.1 f
-          | inr is ↦ meets_over (called d closing p.session) (failed p.met.why) is.1.0 x is.1.1 f
+          | inl is ↦ subst Meet (sym is.1.1) (meets_over p.session (failed p.met.why) is.1.0)
+          | inr is ↦ subst Meet (sym is.1.1) (meets_over (called d closing p.session) (failed p.met.why) is.1.0)
         ]
+
+    -- in words of the script
+    by_script : (es : Journal) (call : Call) → FullAt es call → IsFullBy d (job.script database) database filled limit used next
+    by_script es call (inl f) = inl (record { made = f.made; call = call; rest = f.rest; is = f.is; used_is = f.lacks.used_is; next_is = f.lacks.next_is; full = f.lacks.full })
+    by_script es call (inr f) =
+        let wrote : appended d closing f.session ≡ freed = closing_frees d f.session (f.met.idle f.shut) in
+        inr (record {
+          cut = f.met.cut;
+          unmarked = unmarked_there f.session f.met f.unmarked;
+          used_is = f.lacks.used_is ∙ ap (λ (l : Journal). filled + size_of_all (entries_of d l)) (same_entries f.session f.met);
+          next_is = f.lacks.next_is ∙ ap (λ (l : Journal). size_of_all (entries_of d l)) wrote;
+          full = subst (λ (l : Journal). is_full (end_of Release limit) used (entries_of d l) ≡ true) wrote f.lacks.full;
+        })
+
+    is_full_by : (met : Type 0) (x : Runs) → StandsAt failed d job database met x → MeetsFull x → IsFullBy d (job.script database) database filled limit used next
+    is_full_by met x stands m = by_script x.entries m.cause.call (full_at met x stands m)
 
 pub one_leaves : (Answer : Type 0) → OneLeaves Answer
 one_leaves Answer as_locked busy failed d job database met x stands front more entries = leaves Answer as_locked busy failed d job database (met ≡ true) x stands front more entries

@@ -4,3 +4,6 @@ mod Course
 mod Growing
 mod Leaving
 mod Plainly
+mod Since
+mod Behind
+mod Resting

@@ -2,12 +2,14 @@
 use Rattle.std.proofs.Common.{ap, append-nil, append_assoc, inl, inr, subst, sym, ◌∙◌}
 use Rattle.std.proofs.lemmas.List.{map-append}
 use Rattle.std.specs.Option.{option_map}
-use Rattle.std.specs.Prelude.{Bool, Err, List, None, Ok, Option, Result, Some, [], false, refl, replicate, suc, true, zero, ℕ, ◌++◌, ◌∷◌, ◌≡◌}
+use Rattle.std.specs.Prelude.{Bool, Err, List, None, Ok, Option, Result, Some, [], false, is_some, refl, replicate, suc, true, zero, ℕ, ◌++◌, ◌∷◌, ◌≡◌, ◌⊎◌}
 use Rattle.lq_base.specs.declared.tracking.Lock.{Lock}
 use Rattle.lq_drill.specs.Faults.{Steps, answer_of, Shows, entries_of, entry_of}
 use Rattle.lq_alone.proofs.Along.{stands}
+use Rattle.lq_alone.proofs.Behind.{behind_by, left_in}
+use Rattle.lq_alone.proofs.Resting.{rests_in}
 use Rattle.lq_drill.proofs.Crashed.{leave_wider}
-use Rattle.lq_alone.specs.One.{CameTo, Follows, LeftAlone, RanAlone, Stops, StandsAt, over}
+use Rattle.lq_alone.specs.One.{AnswersOwn, CameTo, Follows, LeftAlone, RanAlone, Stops, StandsAt, over}
 use Rattle.lq_store.specs.Journal.{Crashes, CrashesLeave, Entry, end_of, is_full, size_of_all, State}
 use Rattle.lq_drill.specs.Player.{Brings, Rests, Standing}
 use Rattle.lq_drill.specs.declared.fault.DrillFault.{DrillFault}
@@ -15,7 +17,12 @@ use Rattle.lq_drill.specs.declared.fault.DrillFault.TheVariants as fault
 use Rattle.lq_alone.proofs.Course.{steps}
 use Rattle.lq_drill.proofs.Machines.{moved_last}
 use Rattle.lq_alone.proofs.Leaving.{one_is_full, one_leaves}
-use Rattle.lq_alone.specs.Plain.{IsFullBy, EndsAlone, EndsAs, IsLeftBehind, Leaves, LeavesFront, LeavesLock, OneEnds, OneRests, OneSteps, OneStops}
+use Rattle.lq_alone.specs.Plain.{IsFullBy, EndsAlone, EndsAs, IsLeftBehind, LeavesFront, LeavesLock, OneEnds, OneRests, OneSteps, OneStops}
+use Rattle.lq_alone.specs.Stopped.{MayStop}
+use Rattle.lq_run.specs.Commands.{Leaves}
+use Rattle.lq_run.specs.Crashes.{LeftBehind, LeftInCommand}
+use Rattle.lq_run.specs.Left.{RestsIn}
+use Rattle.lq_statement.specs.Laws.{StatementsReadBack}
 use Rattle.lq_track.specs.Database.{Database}
 use Rattle.lq_turns.specs.Schedule.{Job, Machine, all_moved, appended, has_begun, moved, start}
 use Rattle.lq_turns.specs.Session.{all_called, room_of, session_on}
@@ -30,13 +37,10 @@ module _ (Answer : Type 0) (locked : Lock → Answer) (busy : ℕ → Answer) (f
   Runs = Machine Answer locked busy
 
   -- a store that shows a runner that has answered
-  leaves : (calls : List Call) (a : Answer) (older : List ℕ) → Shows {locked = locked} {busy = busy} origin y (over (all_called origin.dialect calls (session_on database)) a older) → Leaves calls database origin y
+  leaves : (calls : List Call) (a : Answer) (older : List ℕ) → Shows {locked = locked} {busy = busy} origin y (over (all_called origin.dialect calls (session_on database)) a older) → Leaves origin.dialect calls database origin y
   leaves calls a older shows = record {
-    dialect = shows.dialect;
+    database_is = record { dialect = shows.dialect; live = shows.live; shut = shows.begun; committed = shows.committed };
     limit = shows.limit;
-    live = shows.live;
-    shut = shows.begun;
-    stands_for = shows.committed;
     entries = shows.entries;
     used = shows.used;
     room = shows.room;
@@ -71,7 +75,7 @@ module _ (Answer : Type 0) (locked : Lock → Answer) (busy : ℕ → Answer) (f
     dialect = same_dialect ∙ shows.dialect;
     limit = same_limit ∙ shows.limit;
     written = x.entries ++ brings.front;
-    stops = one_leaves Answer locked busy failed origin.dialect job database met z (steps Answer locked busy failed origin.dialect job database (met ≡ true) x z stands goes) (x.entries ++ brings.front) brings.more
+    stops = one_leaves Answer locked busy failed origin.dialect job database met z (inr (steps Answer locked busy failed origin.dialect job database (met ≡ true) x z stands goes)) (x.entries ++ brings.front) brings.more
         (brings.came ∙ sym (append_assoc x.entries brings.front brings.more));
     entries = brings.entries ∙ ap (option_map (λ (es : List Entry). es ++ entries_of origin.dialect brings.front)) shows.entries
         ∙ both_behind (entries_of origin.dialect x.entries) (entries_of origin.dialect brings.front) origin.entries
@@ -79,27 +83,24 @@ module _ (Answer : Type 0) (locked : Lock → Answer) (busy : ℕ → Answer) (f
   }
 
   -- nothing was called
-  starts : (w : State) → Shows {locked = locked} {busy = busy} origin w (start Answer locked busy database) → y ≡ w → Leaves [] database origin y
-  starts w shows same = subst (Leaves [] database origin) (sym same) (record {
-    dialect = shows.dialect;
+  starts : (w : State) → Shows {locked = locked} {busy = busy} origin w (start Answer locked busy database) → y ≡ w → Leaves origin.dialect [] database origin y
+  starts w shows same = subst (Leaves origin.dialect [] database origin) (sym same) (record {
+    database_is = record { dialect = shows.dialect; live = shows.live; shut = shows.begun; committed = shows.committed };
     limit = shows.limit;
-    live = shows.live;
-    shut = shows.begun;
-    stands_for = shows.committed;
     entries = shows.entries;
     used = shows.used;
     room = shows.room;
   })
 
-  not_begun : (met : Type 0) (w : State) (x : Runs) → StandsAt failed origin.dialect job database met x → answer_of 1 x.answers ≡ None → has_begun Answer locked busy 1 x ≡ false → Shows origin w x → y ≡ w → Leaves [] database origin y
+  not_begun : (met : Type 0) (w : State) (x : Runs) → StandsAt failed origin.dialect job database met x → answer_of 1 x.answers ≡ None → has_begun Answer locked busy 1 x ≡ false → Shows origin w x → y ≡ w → Leaves origin.dialect [] database origin y
   not_begun met w x (inl is) none fresh shows same = starts w (subst (Shows origin w) is shows) same
   not_begun met w x (inr (inl p)) none fresh shows same = silent _ p.answer (answer_of 1 x.answers) none (ap (λ (v : Runs). answer_of 1 v.answers) p.ended.1)
   not_begun met w x (inr (inr (inl p))) none fresh shows same = begun (sym (ap (has_begun Answer locked busy 1) p.is) ∙ fresh) where
-    begun : true ≡ false → Leaves [] database origin y
+    begun : true ≡ false → Leaves origin.dialect [] database origin y
     begun is = cc
   not_begun met w x (inr (inr (inr (inl p)))) none fresh shows same = silent _ (job.answer database) (answer_of 1 x.answers) none (ap (λ (v : Runs). answer_of 1 v.answers) p.ended.1)
   not_begun met w x (inr (inr (inr (inr (inl q))))) none fresh shows same = begun (sym (ap (has_begun Answer locked busy 1) q.1.is) ∙ fresh) where
-    begun : true ≡ false → Leaves [] database origin y
+    begun : true ≡ false → Leaves origin.dialect [] database origin y
     begun is = cc
   not_begun met w x (inr (inr (inr (inr (inr q))))) none fresh shows same = elim q.1.by [
     | inl is ↦ silent _ (failed q.1.met.why) (answer_of 1 x.answers) none (ap (λ (v : Runs). answer_of 1 v.answers) is.1.1)
@@ -178,6 +179,48 @@ module _ (Answer : Type 0) (locked : Lock → Answer) (busy : ℕ → Answer) (f
 
   pub crashes_alone : (a b : Crashes) → CrashesLeave origin.entries (LeftAlone failed job origin database (r.faulted ≡ true)) a b → CrashesLeave origin.entries (IsLeftBehind origin.dialect (job.script database) database) a b
   crashes_alone a b leave = leave_wider origin.entries (LeftAlone failed job origin database (r.faulted ≡ true)) (IsLeftBehind origin.dialect (job.script database) database) a b left_behind leave
+
+-- in words of its script, run again
+module _ (read : StatementsReadBack) (Answer : Type 0) (locked : Lock → Answer) (busy : ℕ → Answer) (failed : DrillFault → Answer) (job : Job Answer locked busy) (origin y : State) (database : Database) (r : Standing Answer locked busy) (may : MayStop origin.dialect (job.script database) database) where
+  abbrev Behind : Type 0
+  Behind = LeftBehind origin.dialect (job.script database) database origin y
+
+  follows_behind : Follows failed job origin database r y → Behind
+  follows_behind f = behind_by origin.dialect (job.script database) database origin y (entries_of origin.dialect f.now.entries) f.shows.dialect f.shows.limit f.shows.entries
+      (λ there. left_in Answer locked busy failed origin.dialect job database read may (r.faulted ≡ true) f.now (stands Answer locked busy failed job origin database (r.faulted ≡ true) f.steps f.now f.came) there f.now.entries [] (sym (append-nil f.now.entries)))
+
+  stops_behind : (why : DrillFault) → Stops failed job origin database r y why → Behind
+  stops_behind why s = behind_by origin.dialect (job.script database) database origin y (entries_of origin.dialect (s.now.entries ++ s.brings.front)) (s.same.0 ∙ s.shows.dialect) (s.same.1 ∙ s.shows.limit)
+      (s.brings.entries ∙ ap (option_map (λ (es : List Entry). es ++ entries_of origin.dialect s.brings.front)) s.shows.entries
+      ∙ both_behind (entries_of origin.dialect s.now.entries) (entries_of origin.dialect s.brings.front) origin.entries
+      ∙ ap (λ (more : List Entry). option_map (λ (es : List Entry). es ++ more) origin.entries) (sym (map-append (entry_of origin.dialect) s.now.entries s.brings.front)))
+      (λ there. left_in Answer locked busy failed origin.dialect job database read may (r.faulted ≡ true) s.to
+      (inr (steps Answer locked busy failed origin.dialect job database (r.faulted ≡ true) s.now s.to (stands Answer locked busy failed job origin database (r.faulted ≡ true) s.steps s.now s.came) s.steps_to))
+      there (s.now.entries ++ s.brings.front) s.brings.more (s.brings.came ∙ sym (append_assoc s.now.entries s.brings.front s.brings.more)))
+
+  pub behind_alone : (result : Result (Unit {0}) DrillFault) → RanAlone failed job origin database r result y → Behind
+  behind_alone (Ok u) ran = follows_behind ran.1
+  behind_alone (Err why) (inl s) = stops_behind why s
+  behind_alone (Err why) (inr f) = follows_behind f.1
+
+  pub moments_alone : (a b : Crashes) → CrashesLeave origin.entries (LeftAlone failed job origin database (r.faulted ≡ true)) a b → CrashesLeave origin.entries (LeftInCommand origin.dialect (job.script database) database) a b
+  moments_alone a b leave = leave_wider origin.entries (LeftAlone failed job origin database (r.faulted ≡ true)) (LeftInCommand origin.dialect (job.script database) database) a b
+      (λ there left l. subst (LeftInCommand origin.dialect (job.script database) database there) (sym l.leaves.is)
+      (left_in Answer locked busy failed origin.dialect job database read may (r.faulted ≡ true) l.now (stands Answer locked busy failed job origin database (r.faulted ≡ true) l.steps l.now l.came) there l.leaves.front l.leaves.more l.leaves.came)) leave
+
+module _ (Answer : Type 0) (locked : Lock → Answer) (busy : ℕ → Answer) (failed : DrillFault → Answer) (job : Job Answer locked busy) (origin y : State) (database : Database) (r : Standing Answer locked busy) (may : MayStop origin.dialect (job.script database) database) where
+  pub rests_alone : AnswersOwn failed job database → (is_some r.answer ≡ true → y.live ≡ true → y.begun ≡ None) → (used next : ℕ) (result : Result (Unit {0}) DrillFault) → result ≡ Err (fault.Full used next) → RanAlone failed job origin database r result y
+      → RestsIn origin.dialect (job.script database) database origin y used next
+  rests_alone own shut used next result is ran = by (subst (λ q. RanAlone failed job origin database r q y) is ran) where
+    shut_by : (b : Bool) → y.live ≡ b → is_some r.answer ≡ true → (y.begun ≡ None) ⊎ (y.live ≡ false)
+    shut_by true live some = inl (shut some live)
+    shut_by false live some = inr live
+
+    by : RanAlone failed job origin database r (Err (fault.Full used next)) y → RestsIn origin.dialect (job.script database) database origin y used next
+    by (inl s) = rests_in Answer locked busy failed job origin y database used next may own r s (shut_by y.live refl (ap is_some s.answer))
+    by (inr f) = other f.0 where
+      other : fault.Full used next ≡ fault.OutOfMemory → RestsIn origin.dialect (job.script database) database origin y used next
+      other is = cc
 
 -- one step more at the end, or in front
 

@@ -13,6 +13,10 @@ use Rattle.lq_turns.specs.Script.{closing}
 use Rattle.lq_turns.specs.Session.{Session, aborted, all_called, called, session_on}
 use Rattle.lq_turns.specs.declared.call.Call.{Call}
 
+-- what it answers by itself is no answer to a fault of the store
+abbrev pub AnswersOwn : {Answer : Type 0} {locked : Lock → Answer} {busy : ℕ → Answer} → (DrillFault → Answer) → Job Answer locked busy → Database → Type 0
+AnswersOwn failed job database = (why : DrillFault) → (job.answer database ≡ failed why → ⊥) × (refusal job database ≡ Some (failed why) → ⊥)
+
 module _ {Answer : Type 0} {locked : Lock → Answer} {busy : ℕ → Answer} (failed : DrillFault → Answer) (job : Job Answer locked busy) (origin : State) (database : Database) where
   abbrev pub Runs : Type 0
   Runs = Machine Answer locked busy
@@ -26,12 +30,13 @@ module _ {Answer : Type 0} {locked : Lock → Answer} {busy : ℕ → Answer} (f
   CameTo met zero x = x ≡ start Answer locked busy database
   CameTo met (suc k) x = (y : Runs) × CameTo met k y × HasNotFailed y × Steps failed origin.dialect (λ n. job) met 1 y x
 
-  -- it met this fault at one of them
-  pub record MetAt (met : Type 0) (why : DrillFault) : Type 0 where
+  -- it met this fault at one of them, and wrote nothing since
+  pub record MetAt (met : Type 0) (now : Runs) (why : DrillFault) : Type 0 where
     pub steps : ℕ
     pub at : Runs
     pub came : CameTo met steps at
     pub meets : Meets failed origin.dialect (λ n. job) origin.used origin.limit 1 at why
+    pub since : AnswersOwn failed job database → now.entries ≡ at.entries
 
   -- the store and the runner stand for the machine of so many steps
   pub record Follows (r : Standing Answer locked busy) (y : State) : Type 0 where
@@ -41,7 +46,7 @@ module _ {Answer : Type 0} {locked : Lock → Answer} {busy : ℕ → Answer} (f
     pub going : HasNotFailed now
     pub shows : Shows origin y now
     pub plays : Plays (λ n. job) 1 r now
-    pub owed : (why : DrillFault) → r.owes why → MetAt (r.faulted ≡ true) why
+    pub owed : r.answer ≡ None → (why : DrillFault) → r.owes why → MetAt (r.faulted ≡ true) now why
 
   -- it answered a fault of the store
   pub record Stops (r : Standing Answer locked busy) (y : State) (why : DrillFault) : Type 0 where
@@ -57,7 +62,7 @@ module _ {Answer : Type 0} {locked : Lock → Answer} {busy : ℕ → Answer} (f
     pub brings : Brings origin.dialect now to before y
     pub same : (y.dialect ≡ before.dialect) × (y.limit ≡ before.limit)
     pub answer : r.answer ≡ Some (failed why)
-    pub met : MetAt (r.faulted ≡ true) why
+    pub met : MetAt (r.faulted ≡ true) now why
     pub rests : Rests failed (λ n. job) 1 (r.faulted ≡ true) origin before y now why
 
   -- it has answered; or answered a fault; or it gave up on the way
@@ -135,6 +140,7 @@ module _ {Answer : Type 0} {as_locked : Lock → Answer} {busy : ℕ → Answer}
       pub last : Call
       pub lasts : List Call
       pub to_come : last_calls session ≡ last ∷ lasts
+      pub held : session.committed.lock.locked ≡ true
       pub older : List ℕ
       pub is : x ≡ way session (last ∷ lasts) (failed met.why) older
 
@@ -143,8 +149,12 @@ module _ {Answer : Type 0} {as_locked : Lock → Answer} {busy : ℕ → Answer}
       pub session : Session
       pub met : MetFault session
       pub shut : session.is_open ≡ false
+      pub held : session.committed.lock.locked ≡ true
       pub by : ((has_bar session.committed.lock ≡ true) × HasEnded session (failed met.why) x) ⊎ ((has_bar session.committed.lock ≡ false) × HasEnded (called d closing session) (failed met.why) x)
 
-    -- it stands at one of these, where it met a fault or not
+    -- after a step it stands at one of these, where it met a fault or not
+    abbrev pub StandsLater : Type 0 → Machine Answer as_locked busy → Type 0
+    StandsLater met x = WasRefused x ⊎ (IsOnWay x ⊎ (HasMade x ⊎ ((met × IsGivingUp x) ⊎ (met × HasGivenUp x))))
+
     abbrev pub StandsAt : Type 0 → Machine Answer as_locked busy → Type 0
-    StandsAt met x = (x ≡ start Answer as_locked busy database) ⊎ (WasRefused x ⊎ (IsOnWay x ⊎ (HasMade x ⊎ ((met × IsGivingUp x) ⊎ (met × HasGivenUp x)))))
+    StandsAt met x = (x ≡ start Answer as_locked busy database) ⊎ StandsLater met x

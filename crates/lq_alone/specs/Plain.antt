@@ -4,16 +4,17 @@ use Rattle.std.specs.Prelude.{Bool, Err, List, None, Ok, Option, Result, Some, [
 use Rattle.lq_alone.specs.One.{CameTo, HasGivenUp, IsCut, StandsAt}
 use Rattle.lq_base.specs.declared.dialect.Dialect.{Dialect}
 use Rattle.lq_base.specs.declared.tracking.Lock.{Lock}
-use Rattle.lq_drill.specs.Faults.{Comes, HadRoom, IsLetGo, Meets, Shows, Steps, answer_of, entries_of, freed}
+use Rattle.lq_drill.specs.Faults.{Comes, IsLetGo, Meets, Shows, Steps, answer_of, entries_of, freed}
 use Rattle.lq_drill.specs.Player.{Brings, Rests, refusal}
 use Rattle.lq_drill.specs.declared.fault.DrillFault.{DrillFault}
 use Rattle.lq_drill.specs.declared.fault.DrillFault.TheVariants as fault
 use Rattle.lq_model.specs.declared.caller.Room.TheVariants.{Release}
+use Rattle.lq_run.specs.Commands.{Leaves}
 use Rattle.lq_store.specs.Journal.{Entry, State, end_of, is_full, size_of_all}
 use Rattle.lq_track.specs.Database.{Database}
 use Rattle.lq_turns.specs.Schedule.{Job, Machine, StandsFor, all_moved, appended, start}
 use Rattle.lq_turns.specs.Script.{closing}
-use Rattle.lq_turns.specs.Session.{Session, all_called, left_by, room_of, session_on}
+use Rattle.lq_turns.specs.Session.{Session, all_called, room_of, session_on}
 use Rattle.lq_turns.specs.Stops.{IsLeft, Journal, has_mark}
 use Rattle.lq_turns.specs.declared.call.Call.{Call}
 
@@ -61,17 +62,6 @@ OneFrees Answer = (as_locked : Lock → Answer) (busy : ℕ → Answer) (failed 
 
 -- What a command by itself comes to, in words of its script.
 
--- The store has the database of these calls, and behind the entries that were there those of the calls, for each of which there was room. No transaction is open.
-pub record Leaves (calls : List Call) (database : Database) (x y : State) : Type 0 where
-  pub dialect : y.dialect ≡ x.dialect
-  pub limit : y.limit ≡ x.limit
-  pub live : y.live ≡ true
-  pub shut : y.begun ≡ None
-  pub stands_for : StandsFor x.dialect y.committed (left_by x.dialect calls database)
-  pub entries : y.entries ≡ option_map (λ entries. entries ++ entries_of x.dialect (all_called x.dialect calls (session_on database)).entries) x.entries
-  pub used : y.used ≡ x.used + size_of_all (entries_of x.dialect (all_called x.dialect calls (session_on database)).entries)
-  pub room : HadRoom x.dialect x.limit x.used (all_called x.dialect calls (session_on database)).entries
-
 -- behind the entries that were there stand those that a stop of these calls may leave
 pub record LeavesFront (calls : List Call) (database : Database) (x y : State) : Type 0 where
   pub dialect : y.dialect ≡ x.dialect
@@ -83,13 +73,13 @@ pub record LeavesFront (calls : List Call) (database : Database) (x y : State) :
 module _ {Answer : Type 0} {locked : Lock → Answer} {busy : ℕ → Answer} (job : Job Answer locked busy) (x : State) (database : Database) where
   -- The refusal table: it is refused by the first of its checks that fails, and has made no call; or it has made all calls of its script, and answers what that comes to.
   abbrev pub EndsAs : Answer → State → Type 0
-  EndsAs a y = ((refusal job database ≡ Some a) × Leaves [] database x y)
-      ⊎ ((refusal job database ≡ None) × (a ≡ job.answer database) × Leaves (job.script database) database x y)
+  EndsAs a y = ((refusal job database ≡ Some a) × Leaves x.dialect [] database x y)
+      ⊎ ((refusal job database ≡ None) × (a ≡ job.answer database) × Leaves x.dialect (job.script database) database x y)
 
 -- How the lock is left where the journal's room ended a command: it is free, or has its mark; or the call that frees it had no room; or its first call had none, and nothing was written.
 abbrev pub LeavesLock : State → Database → State → ℕ → ℕ → Type 0
 LeavesLock x database y used next = ((now : Database) × StandsFor x.dialect y.committed now × IsLetGo now.lock)
-    ⊎ (((s : Session) × (next ≡ size_of_all (entries_of x.dialect (appended x.dialect closing s))) × (is_full (end_of Release x.limit) used (entries_of x.dialect (appended x.dialect closing s)) ≡ true)) ⊎ Leaves [] database x y)
+    ⊎ (((s : Session) × (next ≡ size_of_all (entries_of x.dialect (appended x.dialect closing s))) × (is_full (end_of Release x.limit) used (entries_of x.dialect (appended x.dialect closing s)) ≡ true)) ⊎ Leaves x.dialect [] database x y)
 
 -- the entries that were there, and what a stop of these calls may leave
 pub record IsLeftBehind (d : Dialect) (calls : List Call) (database : Database) (there left : List Entry) : Type 0 where

@@ -38,7 +38,7 @@ loop-preserved g c =
       shut = c.in_ok-step.ensures.shut;
       others = λ n apart. c.in_ok-step.ensures.lets_be.others (c.in_ok-step.ensures.live refl) n apart ∙ k.others n apart;
       later = le_trans k.later c.in_ok-step.ensures.later;
-      follows = λ database stands_for. goes_on _ _ _ g.R.Player.failed r.job x database old new w z (sym c.requires.sql ∙ sym k.ready.dialect) c.in_ok-step.ensures.faulted (k.follows database stands_for) c.in_ok-step.ensures.moves c.in_ok-step.ensures.ends;
+      follows = λ database stands_for. goes_on _ _ _ g.R.Player.failed r.job x database old new w z (sym c.requires.sql ∙ sym k.ready.dialect) c.in_ok-step.ensures.faulted (k.follows database stands_for) (none_of _ (sym c.has_answered.ensures ∙ c.if-has_answered.false)) (λ why h. g.met.R.Player.owed c.step.new.self why h) c.in_ok-step.ensures.moves c.in_ok-step.ensures.ends;
       idle = λ database stands_for none. leaves_all _ _ _ g.R.Player.failed r.job x database old w (k.follows database stands_for) (none_of _ (sym c.has_answered.ensures ∙ c.if-has_answered.false)) none _ c.loop.store c.step.new.store (ap (λ s. (g.S.Store.state s).dialect) (k.idle database stands_for none) ∙ sym c.requires.sql ∙ sym k.ready.dialect)
           (subst (λ s. StandsFor (g.S.Store.state s).dialect (g.S.Store.state s).committed database) (sym (k.idle database stands_for none)) stands_for) c.in_ok-step.ensures.idle ∙ k.idle database stands_for none;
       crash = λ database stands_for. crashes_on _ _ _ g.R.Player.failed r.job x database old new w z (sym c.requires.sql ∙ sym k.ready.dialect) c.in_ok-step.ensures.faulted (k.follows database stands_for) (g.S.Store.crashes c.args.store.now) (g.S.Store.crashes c.loop.store) (g.S.Store.crashes c.step.new.store)
