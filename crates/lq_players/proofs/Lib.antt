@@ -1,6 +1,6 @@
 mod Apart
 mod Results
-mod Refused
+pub mod Refused
 mod Reported
 mod TablesSeen
 mod Ended

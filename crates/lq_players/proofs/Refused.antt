@@ -14,7 +14,7 @@ use Rattle.lq_players.specs.AtOnce.{command_of}
 use Rattle.lq_players.specs.Tasks.{if_halts, if_not, if_some, refuses, task_for, unreachable_by, untagged, work_of}
 use Rattle.lq_players.specs.declared.at_once.OneStep.TheVariants as step
 use Rattle.lq_players.specs.declared.at_once.OneStep.{OneStep}
-use Rattle.lq_playing.specs.Answers.{answer_of, came, has_ended, only}
+use Rattle.lq_playing.specs.Answers.{answer_of, came, has_ended, is_failure, only}
 use Rattle.lq_playing.specs.declared.came.Came.{Came}
 use Rattle.lq_playing.specs.declared.came.Report.{Report}
 use Rattle.lq_seen.specs.View.{any_meaning}
@@ -38,12 +38,12 @@ none_some h = Prim.cc
 some_is : {A : Type 0} {a b : A} → (let o : Option A = Some a in o) ≡ Some b → a ≡ b
 some_is h = Prim.cc
 
--- so early that nothing is done
-early : (a b : Answer) → has_ended a ≡ false → Some a ≡ Some b → has_ended b ≡ false
-early a b is same = sym (ap has_ended (some_is same)) ∙ is
+-- so early that nothing is done, and for no fault of the store
+early : (a b : Answer) → (has_ended a ≡ false) × (is_failure a ≡ false) → Some a ≡ Some b → (has_ended b ≡ false) × (is_failure b ≡ false)
+early a b is same = (sym (ap has_ended (some_is same)) ∙ is.0, sym (ap is_failure (some_is same)) ∙ is.1)
 
 abbrev AreEarly : Option Answer → Type 0
-AreEarly refusal = (a : Answer) → refusal ≡ Some a → has_ended a ≡ false
+AreEarly refusal = (a : Answer) → refusal ≡ Some a → (has_ended a ≡ false) × (is_failure a ≡ false)
 
 either : (x y : Option Answer) → AreEarly x → AreEarly y → AreEarly (option_or x y)
 either None y first second = second
@@ -51,10 +51,10 @@ either (Some a) y first second = first
 
 by_faults : (found : List Fault) → AreEarly (if_some found)
 by_faults [] a is = none_some is
-by_faults (fault ∷ more) a is = early (answer.Invalid (fault ∷ more)) a refl is
+by_faults (fault ∷ more) a is = early (answer.Invalid (fault ∷ more)) a (refl, refl) is
 
 by_own : (own : Choice) → AreEarly (if_halts own)
-by_own (choice.Halts why) a is = early (answer.Halted None why) a refl is
+by_own (choice.Halts why) a is = early (answer.Halted None why) a (refl, refl) is
 by_own (choice.Runs what why) a is = none_some is
 by_own choice.Passes a is = none_some is
 by_own choice.Fills a is = none_some is
@@ -63,17 +63,17 @@ by_own (choice.Marks what) a is = none_some is
 
 by_ways : (of : Option Identity) → AreEarly (if_not of)
 by_ways None a is = none_some is
-by_ways (Some of) a is = early (answer.NotReversible of) a refl is
+by_ways (Some of) a is = early (answer.NotReversible of) a (refl, refl) is
 
 by_target : (d : Dialect) (g : Changelog AnyChange) (stay : Option ℕ) (rows : List Tracked) → AreEarly (unreachable_by d g stay rows)
-by_target d g None rows a is = early answer.NoTarget a refl is
+by_target d g None rows a is = early answer.NoTarget a (refl, refl) is
 by_target d g (Some stay) rows a is = by_ways (not_reversible d any_meaning g.sets (rows_undone stay rows)) a is
 
 by_rows : (rows : List Tracked) → AreEarly (untagged rows)
-by_rows [] a is = early answer.NoTarget a refl is
+by_rows [] a is = early answer.NoTarget a (refl, refl) is
 by_rows (row ∷ rows) a is = none_some is
 
-refused_early : (d : Dialect) (task : Task AnyChange) (database : Database) → AreEarly (refuses d task database)
+pub refused_early : (d : Dialect) (task : Task AnyChange) (database : Database) → AreEarly (refuses d task database)
 refused_early d task database = by task.command where
   by : (c : Command) → AreEarly (refuses d (record task { command = c }) database)
   by command.Validate = by_faults (faults task.changelog.sets database.rows)
@@ -89,7 +89,7 @@ alone : (report : Report) (a : Answer) → has_ended a ≡ false → only a ≡ 
 alone report a is = ap (λ (b : Bool). let it : Came = record { answer = a; report = if b then Some report else None } in it) (sym is)
 
 pub refused_so : (prints : Bool) (d : Dialect) (task : Task AnyChange) (database : Database) (report : Report) (a : Answer) → refuses d task database ≡ Some a → (work_of prints d task).refuses database ≡ Some (came report a)
-refused_so prints d task database report a is = ap (option_map only) is ∙ ap (λ (c : Came). let o : Option Came = Some c in o) (alone report a (refused_early d task database a is))
+refused_so prints d task database report a is = ap (option_map only) is ∙ ap (λ (c : Came). let o : Option Came = Some c in o) (alone report a (refused_early d task database a is).0)
 
 -- of a command that ends with its first step nothing is printed
 pub at_once_prints : (prints : Bool) (d : Dialect) (what : OneStep) (options : Options) (g : Files) (stamp : Stamp) → work_of false d (task_for (command_of what) options g stamp) ≡ work_of prints d (task_for (command_of what) options g stamp)
