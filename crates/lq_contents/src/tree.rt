@@ -6,10 +6,11 @@ ghost use Rattle.lq_yaml.specs.Yaml.{yaml_tree};
 ghost use Rattle.lq_contents.specs.Trees.{file_tree, in_json, in_sql, in_yaml, what_of_json, what_of_sql, what_of_yaml};
 
 use lq_base::KindFault;
+use lq_json::read_json;
 use lq_paths::Format;
 use lq_sources::What;
 use lq_sqltree::{SqlTreeFault, read_sql_tree};
-use lq_tree::{Node, TreeFault, read_json};
+use lq_tree::{Node, TreeFault};
 use lq_yaml::{YamlFault, read_yaml};
 use std::alloc::Global;
 
