@@ -1,10 +1,10 @@
-ghost use Rattle.std.specs.Prelude.{◌≡◌, ◌≤◌, ◌<◌, ◌+◌, length, IfOk, IsErrOf};
+ghost use Rattle.std.specs.Prelude.{◌≡◌, ◌≤◌, ◌<◌, ◌+◌, length, Err, IfOk, IsErrOf, Ok};
 ghost use Rattle.lq_outside.specs.Forms.{Rose};
 ghost use Rattle.lq_sources.specs.Faults.{Finds, Holds, Loads};
 ghost use Rattle.lq_paths.specs.Paths.{joined};
 ghost use Rattle.lq_sources.specs.Items.{so_far};
 ghost use Rattle.lq_sources.specs.Walk.{bytes_read, may_name, may_open, named, target, written};
-ghost use Rattle.lq_sources.specs.declared.fault.LoadFault.TheVariants.{Read};
+ghost use Rattle.lq_sources.specs.declared.fault.LoadFault.TheVariants.{Read, TooMany};
 
 use crate::fault::{LoadFault, What};
 use crate::item::Included;
@@ -52,7 +52,8 @@ pub fn target_of(alloc: Global, path: &str, it: &Included) -> Result<Text, LoadF
 /// What the file at a path is written in.
 #[tactic(auto, unfolding(crate::specs::Walk::written))]
 fn written(alloc: Global, path: &str) -> Result<Format, LoadFault>
-    ensures { Loads (written path.now) result }
+    ensures loads { Loads (written path.now) result }
+    ensures known { IfOk (written path.now) (λ format. result ≡ Ok format) }
 {
     if is_xml(path) {
         return Err(LoadFault::Xml(Text::new(alloc, path)?));
@@ -74,6 +75,8 @@ pub fn may_open(
     reading: &Reading,
 ) -> Result<Format, LoadFault>
     ensures format { Loads (may_open path.now levels (so_far reading.now)) result }
+    ensures many { may_open path.now levels (so_far reading.now) ≡ Err TooMany
+        → result ≡ Err TooMany }
     ensures room { IfOk result (λ _. reading.now.files < 10_000) }
 {
     let format = written(alloc, path)?;
